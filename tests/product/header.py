@@ -1,7 +1,8 @@
 #!/usr/bin/env python3
 """The header of the library for C is what the sources say: header.py
 
-It has the exports of crates/bpfagent_c: names, parameters, results, fields of structs, numbers of enums, the version. Its table of answers is that of
+It has the exports of crates/bpfagent_c: names, parameters, results, fields of structs, numbers of enums, the version. Numbers of stops are those of
+`machine`. Its table of answers is that of
 the calls in examples/embed/. It is compiled as C and as C++, where there is a compiler, with all warnings as errors.
 """
 from __future__ import annotations
@@ -19,6 +20,7 @@ from lib.programs import run
 from lib.sources import ROOT, uncommented
 
 CRATE = ROOT / "crates/bpfagent_c"
+STOPS = ROOT / "crates/machine/specs/Stops.antt"
 HEADER = ROOT / "include/bpfagent.h"
 TEXT = re.sub(r"(?s)/\*.*?\*/", "", HEADER.read_text())
 WARNINGS = ["-Wall", "-Wextra", "-Wpedantic", "-Werror"]
@@ -28,6 +30,8 @@ STRUCTS = {
     "Agent": "bpfagent", "End": "bpfagent_end", "Registers": "bpfagent_registers", "Refusal": "bpfagent_refusal", "Granted": "bpfagent_grant",
     "Parcel": "bpfagent_parcel", "WrongLine": "bpfagent_wrong_line",
 }
+# Stops whose name a reply has taken in the header.
+STOPS_IN_C = {"Outside": "STOP_OUTSIDE"}
 WORDS = {"u8": "uint8_t", "u32": "uint32_t", "u64": "uint64_t", "usize": "size_t", "bool": "bool", **STRUCTS}
 
 Signature = tuple[str, list[str]]
@@ -84,12 +88,21 @@ def show_functions() -> str:
     return f"{len(ours)} exports"
 
 
+def stop_numbers() -> dict[str, str]:
+    """The numbers of stops, which `machine` defines, by the names that the header has for them."""
+    found = re.findall(r"(?m)^stop_number \(?stop\.(\w+).*= (\d+)$", STOPS.read_text())
+    names = {name: re.sub(r"(?<=[a-z])(?=[A-Z])", "_", name).upper() for name, _ in found}
+    return {STOPS_IN_C.get(name, names[name]): number for name, number in found}
+
+
 def enums_of_crate() -> dict[str, dict[str, str]]:
-    """The numbers of src/numbers.rt by their names, under the headings that name the enums of the header."""
+    """The numbers of src/numbers.rt by their names, under the headings that name the enums of the header; with those of stops."""
     parts = re.split(r"(?m)^// -+ enum (\w+)$", (CRATE / "src/numbers.rt").read_text())
     numbers = [dict(re.findall(r"const (\w+): \w+ = (.*);", uncommented(part))) for part in parts[::2]]
     want(not numbers[0], f"no heading names the enum of {', '.join(numbers[0])}")
-    return dict(zip(parts[1::2], numbers[1:]))
+    enums = dict(zip(parts[1::2], numbers[1:]))
+    enums["bpfagent_stop"].update(stop_numbers())
+    return enums
 
 
 def enums_of_header() -> dict[str, dict[str, str]]:
@@ -99,7 +112,7 @@ def enums_of_header() -> dict[str, dict[str, str]]:
 
 
 def show_enums() -> str:
-    """The enums are those of src/numbers.rt, and no definition in specs/Codes.antt has a number of its own."""
+    """The enums are those of the crate, and no definition in specs/Codes.antt has a number of its own."""
     enums, ours = enums_of_header(), enums_of_crate()
     want_equal(sorted(enums), sorted(ours), "the enums of the header")
     for name, numbers in ours.items():

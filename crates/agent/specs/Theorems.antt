@@ -18,7 +18,7 @@ use Rattle.machine.specs.Granted.{EntriesAreGranted, ReplaysAreConfined}
 use Rattle.machine.specs.declared.state.Stop.{Stop}
 use Rattle.machine.specs.declared.state.Stepped.{Stepped}
 use Rattle.machine.specs.MachineState.{MachineState}
-use Rattle.machine.specs.Rows.{MemoryAnswer, Outcome, asks, told, stops}
+use Rattle.machine.specs.Rows.{Answer, Outcome, asks, row_outcome, stops}
 use Rattle.machine.specs.TableStep.{TableStep, Attempts, StopsBefore, AnswersRequest, Closes}
 use Rattle.machine.specs.Laws.{StartsWhole, StaysWhole, MapAlwaysSteps, MapStepsOneWay, FuelBounds, FuelCounts, WaitsInPlace, WaitingDoesNothing, StoppedStays}
 use Rattle.machine.specs.Laws.{StopsInPlace, ChangesOne}
@@ -83,9 +83,9 @@ pub record SafeAndTotal : Type 0 where
 pub record DoesItsRow {M : Type 0} (mem : Memories M) (old : MachineState) (before : M) (outcome : Outcome) (after : M) : Type 0 where
   pub instr : Instr
   pub attempts : Attempts old instr
-  pub said : MemoryAnswer
+  pub said : Answer (asks instr old)
   pub answers : AnswersRequest mem (asks instr old) before said after
-  pub becomes : outcome ≡ told instr old said
+  pub becomes : outcome ≡ row_outcome instr old said
 
 -- Nothing is done: the machine stops. It has no fuel, or the stop is in place of the instruction that is next.
 pub record OnlyStops {M : Type 0} (old : MachineState) (before : M) (outcome : Outcome) (after : M) : Type 0 where

@@ -10,8 +10,7 @@ use Rattle.loader.specs.declared.loading.Why.{Why}
 use Rattle.loader.specs.declared.loading.Why.TheVariants as why
 use Rattle.asm_grammar.specs.declared.why.Why.{Why as WrongText}
 use Rattle.asm_grammar.specs.declared.why.Why.TheVariants as wrong_text
-use Rattle.machine.specs.declared.state.Stop.{Stop}
-use Rattle.machine.specs.declared.state.Stop.TheVariants as stop
+use Rattle.machine.specs.Stops.{stop_number}
 use Rattle.debugger.specs.declared.shown.State.{State}
 use Rattle.debugger.specs.declared.shown.State.TheVariants as state
 use Rattle.debugger.specs.declared.replies.StepReply.{StepReply}
@@ -24,8 +23,7 @@ use Rattle.world.specs.Moves.{place_before}
 use Rattle.bpfagent_c.specs.declared.numbers.TheConstants.{OK, RAN, HIT, WAITING, PAUSED, STOPPED, NOMEM, FULL, NOROOM, OUTSIDE, AWAY}
 use Rattle.bpfagent_c.specs.declared.numbers.TheConstants.{IS_HERE, IS_LEAVING, IS_FAR, IS_RETURNING, SCOPED, FAULT_HERE, FAULT_FAR, NOSLOT, NOWATCH}
 use Rattle.bpfagent_c.specs.declared.numbers.TheConstants.{NOTPAUSED, REFUSED, NONE, DAMAGED, NOAGENT}
-use Rattle.bpfagent_c.specs.declared.numbers.TheConstants.{EXIT, STOP_OUTSIDE, MISALIGNED, DEPTH, SPENT, WORN, NOT_GRANTED, GOES_ON}
-use Rattle.bpfagent_c.specs.declared.numbers.TheConstants.{RUNNING, IS_PAUSED, IS_STOPPED, HERE, LEAVING, FAR, RETURNING}
+use Rattle.bpfagent_c.specs.declared.numbers.TheConstants.{GOES_ON, RUNNING, IS_PAUSED, IS_STOPPED, HERE, LEAVING, FAR, RETURNING}
 
 -- the object is in this place, where the command can't be done
 abbrev pub code_of_place : Place → ℕ
@@ -61,7 +59,7 @@ code_of_moved back (moved.Fault f) = code_of_fault back
 abbrev pub code_of_reply : Reply → ℕ
 code_of_reply (reply.Freed n m) = code_of_moved place.Here m
 code_of_reply (reply.Moved n kind m) = code_of_moved (place_before kind) m
-code_of_reply (reply.Stepped m told) = code_of_step (Some told)
+code_of_reply (reply.Stepped m replied) = code_of_step (Some replied)
 code_of_reply (reply.Shown m show_reply.Outside) = OUTSIDE
 code_of_reply (reply.Shown m show_reply.NoSlot) = NOSLOT
 code_of_reply (reply.Shown m show_reply.NoMemory) = NOMEM
@@ -87,17 +85,7 @@ code_of (Some r) = code_of_reply r
 -- the number of what a run ended with, where all of its steps may have run
 abbrev pub code_of_end : Option StepReply → ℕ
 code_of_end None = RAN
-code_of_end (Some told) = code_of_step (Some told)
-
--- the number of a stop
-abbrev pub code_of_stop : Stop → ℕ
-code_of_stop (stop.Exit v) = EXIT
-code_of_stop stop.Outside = STOP_OUTSIDE
-code_of_stop stop.Misaligned = MISALIGNED
-code_of_stop stop.Depth = DEPTH
-code_of_stop stop.Spent = SPENT
-code_of_stop stop.Worn = WORN
-code_of_stop stop.NotGranted = NOT_GRANTED
+code_of_end (Some replied) = code_of_step (Some replied)
 
 -- whether a machine goes on, as a number
 abbrev pub code_of_state : State → ℕ
@@ -107,7 +95,7 @@ code_of_state (state.Stopped s) = IS_STOPPED
 
 -- the number of the stop of a machine that is stopped, or that another one goes on
 abbrev pub stop_of_state : State → ℕ
-stop_of_state (state.Stopped s) = code_of_stop s
+stop_of_state (state.Stopped s) = stop_number s
 stop_of_state _ = GOES_ON
 
 -- bytes didn't come back: they are others, or the far store failed

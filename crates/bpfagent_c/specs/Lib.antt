@@ -1,6 +1,6 @@
 pub mod Handle
 pub mod Codes
-pub mod Told
+pub mod Commanded
 pub mod Shown
 pub mod Handing
 pub mod Texts

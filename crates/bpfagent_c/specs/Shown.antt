@@ -7,6 +7,7 @@ use Rattle.machine.specs.declared.grants.Grant.{Grant}
 use Rattle.machine.specs.Grants.{GrantState}
 use Rattle.machine.specs.declared.state.Stop.{Stop}
 use Rattle.machine.specs.declared.state.Stop.TheVariants as stop
+use Rattle.machine.specs.Stops.{stop_number}
 use Rattle.debugger.specs.declared.commands.Way.{Way}
 use Rattle.debugger.specs.declared.commands.MachineCommand.TheVariants.{Step}
 use Rattle.debugger.specs.declared.replies.StepReply.{StepReply}
@@ -26,7 +27,7 @@ use Rattle.bpfagent_c.specs.declared.shown.Granted.{Granted}
 use Rattle.bpfagent_c.specs.declared.shown.Refusal.{Refusal}
 use Rattle.bpfagent_c.specs.declared.shown.Registers.{Registers}
 use Rattle.bpfagent_c.specs.declared.numbers.TheConstants.{GOES_ON, NOAGENT, NONE}
-use Rattle.bpfagent_c.specs.Codes.{code_of_step, code_of_end, code_of_stop, code_of_state, stop_of_state}
+use Rattle.bpfagent_c.specs.Codes.{code_of_step, code_of_end, code_of_state, stop_of_state}
 
 -- ---- numbers
 
@@ -118,7 +119,7 @@ value_of_step (step_reply.Stopped s) = value_of_stop s
 
 -- why the machine is stopped, or that it goes on
 abbrev pub stop_of_step : StepReply → ℕ
-stop_of_step (step_reply.Stopped s) = code_of_stop s
+stop_of_step (step_reply.Stopped s) = stop_number s
 stop_of_step _ = GOES_ON
 
 -- how many steps ran, of one
@@ -129,12 +130,12 @@ ran_of_step _ = 0
 -- how a step ended
 abbrev pub end_of_step : Option StepReply → End → End
 end_of_step None old = old
-end_of_step (Some told) old = record { ran = ran_of_step told; value = value_of_step told; stop = stop_of_step told }
+end_of_step (Some replied) old = record { ran = ran_of_step replied; value = value_of_step replied; stop = stop_of_step replied }
 
 -- how a run ended, of which so many steps ran
 abbrev pub end_after : ℕ → Option StepReply → End
 end_after ran None = record { ran = ran; value = 0; stop = GOES_ON }
-end_after ran (Some told) = record { ran = ran; value = value_of_step told; stop = stop_of_step told }
+end_after ran (Some replied) = record { ran = ran; value = value_of_step replied; stop = stop_of_step replied }
 
 -- how a run ended, where there may be no such machine
 abbrev pub end_of_run : Option MachineRun → End → End
@@ -148,11 +149,11 @@ code_of_run (Some run) = code_of_end run.end
 
 -- the agent's machine m makes a step, in this way, and number and end are those of what it was answered
 pub record Steps (way : Way) (m : ℕ) (old : Agent) (before : End) (number : ℕ) (new : Agent) (after : End) : Type 0 where
-  pub told : Option StepReply
+  pub replied : Option StepReply
   pub live : new.live ≡ true
-  pub answers : Answers (state_of old.held.state) (Machine m (Step way)) (reply_of m told) (state_of new.held.state)
-  pub number_is : number ≡ code_of_step told
-  pub end_is : after ≡ end_of_step told before
+  pub answers : Answers (state_of old.held.state) (Machine m (Step way)) (reply_of m replied) (state_of new.held.state)
+  pub number_is : number ≡ code_of_step replied
+  pub end_is : after ≡ end_of_step replied before
 
 -- the agent's machine m makes at most n steps
 pub record Runs (m n : ℕ) (old : Agent) (before : End) (number : ℕ) (new : Agent) (after : End) : Type 0 where

@@ -1,17 +1,16 @@
 //! Replies, places and stops as the numbers that the header names.
 ghost use Rattle.std.specs.Prelude.{◌≡◌, ◌≢◌, ℕ, Some, IfSome, IfNone};
 ghost use Rattle.debugger.specs.declared.shown.State.{State};
-ghost use Rattle.machine.specs.declared.state.Stop.{Stop};
 ghost use Rattle.world.specs.Answers.{denied};
 ghost use Rattle.world.specs.Machines.{refused_stack};
 ghost use Rattle.bpfagent_c.specs.Codes.{code_of, code_of_back, code_of_end, code_of_fault, code_of_moved, code_of_place, code_of_reply};
-ghost use Rattle.bpfagent_c.specs.Codes.{code_of_state, code_of_step, code_of_stop, code_of_text, code_of_why, number_of_place, place_numbered, stop_of_state};
+ghost use Rattle.bpfagent_c.specs.Codes.{code_of_state, code_of_step, code_of_text, code_of_why, number_of_place, place_numbered, stop_of_state};
 
 use crate::numbers::{
-    AWAY, DAMAGED, DEPTH, EXIT, FAR, FAULT_FAR, FAULT_HERE, FULL, GOES_ON, HERE, HIT, IS_FAR,
-    IS_HERE, IS_LEAVING, IS_PAUSED, IS_RETURNING, IS_STOPPED, LEAVING, MISALIGNED, NOAGENT, NOMEM,
-    NONE, NOROOM, NOSLOT, NOT_GRANTED, NOTPAUSED, NOWATCH, OK, OUTSIDE, PAUSED, RAN, REFUSED,
-    RETURNING, RUNNING, SCOPED, SPENT, STOP_OUTSIDE, STOPPED, WAITING, WORN,
+    AWAY, DAMAGED, FAR, FAULT_FAR, FAULT_HERE, FULL, GOES_ON, HERE, HIT, IS_FAR, IS_HERE,
+    IS_LEAVING, IS_PAUSED, IS_RETURNING, IS_STOPPED, LEAVING, NOAGENT, NOMEM, NONE, NOROOM, NOSLOT,
+    NOTPAUSED, NOWATCH, OK, OUTSIDE, PAUSED, RAN, REFUSED, RETURNING, RUNNING, SCOPED, STOPPED,
+    WAITING,
 };
 use asm_grammar::Why as WrongText;
 use debugger::{Debugged, ShowReply, State, StepReply};
@@ -111,10 +110,10 @@ fn code_of_fault(place: Place) -> u32
 }
 
 /// The number of what a step was answered.
-pub(crate) fn code_of_step(told: StepReply) -> u32
-    ensures { result ≡ code_of_step (Some told) }
+pub(crate) fn code_of_step(reply: StepReply) -> u32
+    ensures { result ≡ code_of_step (Some reply) }
 {
-    match told {
+    match reply {
         StepReply::Ran(_) => RAN,
         StepReply::Hit(_) => HIT,
         StepReply::Waiting(_) => WAITING,
@@ -129,22 +128,7 @@ pub(crate) fn code_of_end(end: Option<StepReply>) -> u32
 {
     match end {
         None => RAN,
-        Some(told) => code_of_step(told),
-    }
-}
-
-/// The number of a stop.
-pub(crate) fn code_of_stop(stop: Stop) -> u32
-    ensures { result ≡ code_of_stop stop }
-{
-    match stop {
-        Stop::Exit(_) => EXIT,
-        Stop::Outside => STOP_OUTSIDE,
-        Stop::Misaligned => MISALIGNED,
-        Stop::Depth => DEPTH,
-        Stop::Spent => SPENT,
-        Stop::Worn => WORN,
-        Stop::NotGranted => NOT_GRANTED,
+        Some(reply) => code_of_step(reply),
     }
 }
 
@@ -164,25 +148,8 @@ pub(crate) fn stop_of_state(state: State) -> u32
     ensures { result ≡ stop_of_state state }
 {
     match state {
-        State::Stopped(stop) => code_of_stop(stop),
+        State::Stopped(stop) => stop.number(),
         _ => GOES_ON,
-    }
-}
-
-/// The stop of a number. An exit's value isn't in its number, and is 0 here.
-fn stop_numbered(number: u32) -> Option<Stop>
-    ensures some { IfSome result (λ stop. code_of_stop stop ≡ number) }
-    ensures none { IfNone result ((stop : Stop) → code_of_stop stop ≢ number) }
-{
-    match number {
-        EXIT => Some(Stop::Exit(0)),
-        STOP_OUTSIDE => Some(Stop::Outside),
-        MISALIGNED => Some(Stop::Misaligned),
-        DEPTH => Some(Stop::Depth),
-        SPENT => Some(Stop::Spent),
-        WORN => Some(Stop::Worn),
-        NOT_GRANTED => Some(Stop::NotGranted),
-        _ => None,
     }
 }
 
@@ -194,7 +161,7 @@ pub(crate) fn state_numbered(state: u32, stop: u32) -> Option<State>
     match (state, stop) {
         (RUNNING, GOES_ON) => Some(State::Running),
         (IS_PAUSED, GOES_ON) => Some(State::Paused),
-        (IS_STOPPED, _) => match stop_numbered(stop) {
+        (IS_STOPPED, _) => match Stop::numbered(stop) {
             Some(found) => Some(State::Stopped(found)),
             None => None,
         },

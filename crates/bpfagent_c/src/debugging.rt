@@ -6,7 +6,7 @@ ghost use Rattle.debugger.specs.declared.commands.ShowCommand.{ShowCommand};
 ghost use Rattle.world.specs.declared.events.Event.{Event};
 ghost use Rattle.world.specs.declared.replies.Reply.{Reply};
 ghost use Rattle.bpfagent_c.specs.Codes.{code_of};
-ghost use Rattle.bpfagent_c.specs.Told.{Commanded, Told};
+ghost use Rattle.bpfagent_c.specs.Commanded.{Commanded, RepliesNumber};
 ghost use Rattle.bpfagent_c.specs.Shown.{registers_of, values_of, value_count_of, bytes_of, text_of, text_count_of};
 
 use crate::codes::{code_of, code_of_stack};
@@ -76,7 +76,7 @@ pub extern "C" fn bpfagent_stack(
     offset: u32,
     bytes: &mut [u8],
 ) -> u32
-    ensures told { (given : Option Reply) × Commanded agent.old (Event.Machine machine (MachineCommand.Show (ShowCommand.Stack offset (length bytes.old))))
+    ensures replied { (given : Option Reply) × Commanded agent.old (Event.Machine machine (MachineCommand.Show (ShowCommand.Stack offset (length bytes.old))))
         given agent.new × (result ≡ code_of given) × (bytes.new ≡ bytes_of given bytes.old) }
     ensures memory { result ≢ NOMEM }
 {
@@ -121,7 +121,7 @@ pub extern "C" fn bpfagent_line(
 /// Sets a breakpoint at a slot.
 #[unsafe(no_mangle)]
 pub extern "C" fn bpfagent_break(alloc: Global, agent: &mut Agent, machine: usize, slot: u32) -> u32
-    ensures { Told agent.old (Event.Machine machine (MachineCommand.Debug (DebugCommand.Break slot))) result agent.new }
+    ensures { RepliesNumber agent.old (Event.Machine machine (MachineCommand.Debug (DebugCommand.Break slot))) result agent.new }
 {
     tell_debug(agent, alloc, machine, DebugCommand::Break { slot })
 }
@@ -134,7 +134,7 @@ pub extern "C" fn bpfagent_unbreak(
     machine: usize,
     slot: u32,
 ) -> u32
-    ensures { Told agent.old (Event.Machine machine (MachineCommand.Debug (DebugCommand.Unbreak slot))) result agent.new }
+    ensures { RepliesNumber agent.old (Event.Machine machine (MachineCommand.Debug (DebugCommand.Unbreak slot))) result agent.new }
 {
     tell_debug(agent, alloc, machine, DebugCommand::Unbreak { slot })
 }
@@ -148,7 +148,7 @@ pub extern "C" fn bpfagent_watch(
     address: u64,
     length: u32,
 ) -> u32
-    ensures { Told agent.old (Event.Machine machine (MachineCommand.Debug (DebugCommand.Watch address length))) result agent.new }
+    ensures { RepliesNumber agent.old (Event.Machine machine (MachineCommand.Debug (DebugCommand.Watch address length))) result agent.new }
 {
     tell_debug(
         agent,
@@ -167,7 +167,7 @@ pub extern "C" fn bpfagent_unwatch(
     address: u64,
     length: u32,
 ) -> u32
-    ensures { Told agent.old (Event.Machine machine (MachineCommand.Debug (DebugCommand.Unwatch address length))) result agent.new }
+    ensures { RepliesNumber agent.old (Event.Machine machine (MachineCommand.Debug (DebugCommand.Unwatch address length))) result agent.new }
 {
     tell_debug(
         agent,
@@ -180,7 +180,7 @@ pub extern "C" fn bpfagent_unwatch(
 /// Lets a paused machine go on.
 #[unsafe(no_mangle)]
 pub extern "C" fn bpfagent_resume(alloc: Global, agent: &mut Agent, machine: usize) -> u32
-    ensures { Told agent.old (Event.Machine machine (MachineCommand.Debug DebugCommand.Resume)) result agent.new }
+    ensures { RepliesNumber agent.old (Event.Machine machine (MachineCommand.Debug DebugCommand.Resume)) result agent.new }
 {
     tell_debug(agent, alloc, machine, DebugCommand::Resume)
 }

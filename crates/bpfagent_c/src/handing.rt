@@ -15,7 +15,7 @@ ghost use Rattle.world.specs.declared.events.ObjectCommand.{ObjectCommand};
 ghost use Rattle.world.specs.declared.world.moving.Move.{Move};
 ghost use Rattle.world.specs.declared.replies.Reply.{Reply};
 ghost use Rattle.bpfagent_c.specs.Codes.{code_of, code_of_reply};
-ghost use Rattle.bpfagent_c.specs.Told.{Commanded, HasNone};
+ghost use Rattle.bpfagent_c.specs.Commanded.{Commanded, HasNone};
 ghost use Rattle.bpfagent_c.specs.Handing.{Forgets, IsCalm, bytes_at, left_count, left_digest, left_over};
 
 use crate::codes::{code_of_back, code_of_moved};
@@ -47,11 +47,11 @@ fn leave_into(
     parcel: &mut Parcel,
 ) -> u32
     requires room { length (bytes_of world.old.store.state.objects object) ≤ length buffer.old }
-    ensures told { (told : Reply) × Answers (state_of world.old) (Event.Object object (ObjectCommand.Move Move.Left)) told (state_of world.new)
-        × (result ≡ code_of_reply told)
-        × (buffer.new ≡ left_over told (bytes_of world.old.store.state.objects object) buffer.old)
-        × (size.new ≡ left_count told (bytes_of world.old.store.state.objects object) size.old)
-        × (parcel.new.digest ≡ left_digest told (bytes_of world.old.store.state.objects object) parcel.old.digest) }
+    ensures replied { (replied : Reply) × Answers (state_of world.old) (Event.Object object (ObjectCommand.Move Move.Left)) replied (state_of world.new)
+        × (result ≡ code_of_reply replied)
+        × (buffer.new ≡ left_over replied (bytes_of world.old.store.state.objects object) buffer.old)
+        × (size.new ≡ left_count replied (bytes_of world.old.store.state.objects object) size.old)
+        × (parcel.new.digest ≡ left_digest replied (bytes_of world.old.store.state.objects object) parcel.old.digest) }
     ensures works { result ≢ FAULT_HERE }
 {
     let count = world.length(object);
@@ -74,10 +74,10 @@ pub extern "C" fn bpfagent_left_into(
     size: &mut usize,
     parcel: &mut Parcel,
 ) -> u32
-    ensures told { agent.old.live ≡ true → length (bytes_at agent.old object) ≤ length buffer.old
-        → (told : Reply) × Commanded agent.old (Event.Object object (ObjectCommand.Move Move.Left)) (Some told) agent.new × (result ≡ code_of_reply told)
-        × (buffer.new ≡ left_over told (bytes_at agent.old object) buffer.old) × (size.new ≡ left_count told (bytes_at agent.old object) size.old)
-        × (parcel.new.digest ≡ left_digest told (bytes_at agent.old object) parcel.old.digest) }
+    ensures replied { agent.old.live ≡ true → length (bytes_at agent.old object) ≤ length buffer.old
+        → (replied : Reply) × Commanded agent.old (Event.Object object (ObjectCommand.Move Move.Left)) (Some replied) agent.new × (result ≡ code_of_reply replied)
+        × (buffer.new ≡ left_over replied (bytes_at agent.old object) buffer.old) × (size.new ≡ left_count replied (bytes_at agent.old object) size.old)
+        × (parcel.new.digest ≡ left_digest replied (bytes_at agent.old object) parcel.old.digest) }
     ensures short { agent.old.live ≡ true → length buffer.old < length (bytes_at agent.old object)
         → (result ≡ SHORT) × IsCalm agent.old agent.new × (buffer.new ≡ buffer.old) × (size.new ≡ length (bytes_at agent.old object))
         × (parcel.new ≡ parcel.old) }
@@ -124,7 +124,7 @@ pub extern "C" fn bpfagent_returned_from(
     bytes: &[u8],
 ) -> u32
     requires premise { agent.old.live ≡ true → Alike (bytes_at agent.old object) bytes.now → bytes.now ≡ bytes_at agent.old object }
-    ensures told { (given : Option Reply) × Commanded agent.old (Event.Object object (ObjectCommand.Move Move.Returned)) given agent.new
+    ensures replied { (given : Option Reply) × Commanded agent.old (Event.Object object (ObjectCommand.Move Move.Returned)) given agent.new
         × ((result ≡ code_of given) ⊎ ((result ≡ DAMAGED) × (code_of given ≡ FAULT_FAR))) }
     ensures back { result ≡ OK → bytes.now ≡ bytes_at agent.old object }
     ensures damaged { result ≡ DAMAGED → bytes.now ≢ bytes_at agent.old object }
@@ -139,7 +139,7 @@ pub extern "C" fn bpfagent_returned_from(
 /// Frees an object that is far.
 #[unsafe(no_mangle)]
 pub extern "C" fn bpfagent_forget(alloc: Global, agent: &mut Agent, object: u32) -> u32
-    ensures told { agent.old.live ≡ true → Forgets object agent.old result agent.new }
+    ensures replied { agent.old.live ≡ true → Forgets object agent.old result agent.new }
     ensures none { agent.old.live ≡ false → (result ≡ NOAGENT) × HasNone agent.old agent.new }
 {
     let Some(mut world) = take(agent, alloc) else {

@@ -5,7 +5,7 @@ ghost use Rattle.debugger.specs.declared.commands.Way.{Way};
 ghost use Rattle.world.specs.declared.events.Event.{Event};
 ghost use Rattle.world.specs.declared.replies.Reply.{Reply};
 ghost use Rattle.bpfagent_c.specs.Codes.{code_of};
-ghost use Rattle.bpfagent_c.specs.Told.{Commanded};
+ghost use Rattle.bpfagent_c.specs.Commanded.{Commanded};
 ghost use Rattle.bpfagent_c.specs.Shown.{shipped_of, refusal_of, grants_of, AreGrants, Steps, Runs, IsWithout};
 
 use crate::codes::{code_of, code_of_end, code_of_step};
@@ -79,7 +79,7 @@ pub extern "C" fn bpfagent_ship_granted(
     machine: &mut usize,
     refusal: &mut Refusal,
 ) -> u32
-    ensures told { AreGrants granted.now → (given : Option Reply)
+    ensures replied { AreGrants granted.now → (given : Option Reply)
         × Commanded agent.old (Event.Ship (record { fuel = fuel; arguments = r1 ∷ r2 ∷ r3 ∷ r4 ∷ r5 ∷ []; grants = grants_of granted.now }) code.now) given
         agent.new × (result ≡ code_of given) × (machine.new ≡ shipped_of given machine.old) × (refusal.new ≡ refusal_of given refusal.old) }
     ensures bad { (AreGrants granted.now → ⊥) → (result ≡ BAD) × (agent.new ≡ agent.old) × (machine.new ≡ machine.old) × (refusal.new ≡ refusal.old) }
@@ -104,13 +104,13 @@ fn make_step(agent: &mut Agent, alloc: Global, machine: usize, way: Way, end: &m
     let Some(mut world) = take(agent, alloc) else {
         return NOAGENT;
     };
-    let told = world.step(machine, way);
+    let reply = world.step(machine, way);
     give(agent, alloc, world);
-    let Some(told) = told else {
+    let Some(reply) = reply else {
         return NONE;
     };
-    *end = End::of_step(told);
-    code_of_step(told)
+    *end = End::of_step(reply);
+    code_of_step(reply)
 }
 
 /// Makes a step of a machine, or it pauses in its place.

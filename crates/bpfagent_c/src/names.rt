@@ -10,7 +10,7 @@ ghost use Rattle.loader.specs.Refusals.{why_name, why_number};
 ghost use Rattle.loader.specs.declared.loading.Why.{Why};
 ghost use Rattle.machine.specs.declared.state.Stop.{Stop};
 ghost use Rattle.placement.specs.declared.places.Place.{Place};
-ghost use Rattle.bpfagent_c.specs.Codes.{code_of_state, code_of_stop, place_numbered, stop_of_state};
+ghost use Rattle.bpfagent_c.specs.Codes.{code_of_state, place_numbered, stop_of_state};
 ghost use Rattle.bpfagent_c.specs.Shown.{over};
 
 use crate::codes::{place_numbered, state_numbered};

@@ -61,20 +61,6 @@ pub const BAD: u32 = 31;
 
 pub const GOES_ON: u32 = 0;
 
-pub const EXIT: u32 = 1;
-
-pub const STOP_OUTSIDE: u32 = 2;
-
-pub const MISALIGNED: u32 = 3;
-
-pub const DEPTH: u32 = 4;
-
-pub const SPENT: u32 = 5;
-
-pub const WORN: u32 = 6;
-
-pub const NOT_GRANTED: u32 = 7;
-
 // ---- enum bpfagent_state
 
 pub const RUNNING: u32 = 0;

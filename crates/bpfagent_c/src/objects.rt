@@ -6,7 +6,7 @@ ghost use Rattle.world.specs.declared.events.ObjectCommand.{ObjectCommand};
 ghost use Rattle.world.specs.declared.world.moving.Move.{Move};
 ghost use Rattle.world.specs.declared.replies.Reply.{Reply};
 ghost use Rattle.bpfagent_c.specs.Codes.{code_of};
-ghost use Rattle.bpfagent_c.specs.Told.{Commanded, Told};
+ghost use Rattle.bpfagent_c.specs.Commanded.{Commanded, RepliesNumber};
 ghost use Rattle.bpfagent_c.specs.Shown.{made_of, bytes_of};
 
 use crate::codes::{code_of, code_of_denied};
@@ -28,7 +28,7 @@ pub extern "C" fn bpfagent_make(
     length: u64,
     object: &mut u32,
 ) -> u32
-    ensures told { (1 ≤ length) × (length ≤ object_bytes)
+    ensures replied { (1 ≤ length) × (length ≤ object_bytes)
         → (given : Option Reply) × Commanded agent.old (Event.Make length) given agent.new × (result ≡ code_of given)
         × (object.new ≡ made_of given object.old) }
     ensures bad { ((1 ≤ length) × (length ≤ object_bytes) → ⊥) → (result ≡ BAD) × (agent.new ≡ agent.old) × (object.new ≡ object.old) }
@@ -46,7 +46,7 @@ pub extern "C" fn bpfagent_make(
 /// Frees an object.
 #[unsafe(no_mangle)]
 pub extern "C" fn bpfagent_free(alloc: Global, agent: &mut Agent, object: u32) -> u32
-    ensures { Told agent.old (Event.Object object ObjectCommand.Free) result agent.new }
+    ensures { RepliesNumber agent.old (Event.Object object ObjectCommand.Free) result agent.new }
 {
     tell_object(agent, alloc, object, ObjectCommand::Free)
 }
@@ -54,7 +54,7 @@ pub extern "C" fn bpfagent_free(alloc: Global, agent: &mut Agent, object: u32) -
 /// An object begins to leave.
 #[unsafe(no_mangle)]
 pub extern "C" fn bpfagent_leave(alloc: Global, agent: &mut Agent, object: u32) -> u32
-    ensures { Told agent.old (Event.Object object (ObjectCommand.Move Move.Leave)) result agent.new }
+    ensures { RepliesNumber agent.old (Event.Object object (ObjectCommand.Move Move.Leave)) result agent.new }
 {
     tell_move(agent, alloc, object, Move::Leave)
 }
@@ -62,7 +62,7 @@ pub extern "C" fn bpfagent_leave(alloc: Global, agent: &mut Agent, object: u32) 
 /// An object that is leaving is put in the far store.
 #[unsafe(no_mangle)]
 pub extern "C" fn bpfagent_left(alloc: Global, agent: &mut Agent, object: u32) -> u32
-    ensures { Told agent.old (Event.Object object (ObjectCommand.Move Move.Left)) result agent.new }
+    ensures { RepliesNumber agent.old (Event.Object object (ObjectCommand.Move Move.Left)) result agent.new }
 {
     tell_move(agent, alloc, object, Move::Left)
 }
@@ -70,7 +70,7 @@ pub extern "C" fn bpfagent_left(alloc: Global, agent: &mut Agent, object: u32) -
 /// An object that is far begins to return.
 #[unsafe(no_mangle)]
 pub extern "C" fn bpfagent_return(alloc: Global, agent: &mut Agent, object: u32) -> u32
-    ensures { Told agent.old (Event.Object object (ObjectCommand.Move Move.Return)) result agent.new }
+    ensures { RepliesNumber agent.old (Event.Object object (ObjectCommand.Move Move.Return)) result agent.new }
 {
     tell_move(agent, alloc, object, Move::Return)
 }
@@ -78,7 +78,7 @@ pub extern "C" fn bpfagent_return(alloc: Global, agent: &mut Agent, object: u32)
 /// An object that is returning is got from the far store.
 #[unsafe(no_mangle)]
 pub extern "C" fn bpfagent_returned(alloc: Global, agent: &mut Agent, object: u32) -> u32
-    ensures { Told agent.old (Event.Object object (ObjectCommand.Move Move.Returned)) result agent.new }
+    ensures { RepliesNumber agent.old (Event.Object object (ObjectCommand.Move Move.Returned)) result agent.new }
 {
     tell_move(agent, alloc, object, Move::Returned)
 }
@@ -102,7 +102,7 @@ pub extern "C" fn bpfagent_put(
     offset: u32,
     bytes: &[u8],
 ) -> u32
-    ensures { Told agent.old (Event.Object object (ObjectCommand.Put offset bytes.now)) result agent.new }
+    ensures { RepliesNumber agent.old (Event.Object object (ObjectCommand.Put offset bytes.now)) result agent.new }
 {
     let given = put(agent, alloc, object, offset, bytes);
     code_of(&given)
@@ -110,7 +110,7 @@ pub extern "C" fn bpfagent_put(
 
 /// Copies bytes of an object over these, as many as they are, and tells the number of the reply.
 fn get(agent: &mut Agent, alloc: Global, object: u32, offset: u32, bytes: &mut [u8]) -> u32
-    ensures told { (given : Option Reply) × Commanded agent.old (Event.Object object (ObjectCommand.Get offset (length bytes.old))) given agent.new
+    ensures replied { (given : Option Reply) × Commanded agent.old (Event.Object object (ObjectCommand.Get offset (length bytes.old))) given agent.new
         × (result ≡ code_of given) × (bytes.new ≡ bytes_of given bytes.old) }
     ensures memory { result ≢ NOMEM }
 {
@@ -134,7 +134,7 @@ pub extern "C" fn bpfagent_get(
     offset: u32,
     bytes: &mut [u8],
 ) -> u32
-    ensures told { (given : Option Reply) × Commanded agent.old
+    ensures replied { (given : Option Reply) × Commanded agent.old
         (Event.Object object (ObjectCommand.Get offset (min (length bytes.old) (object_bytes + 1)))) given agent.new
         × (result ≡ code_of given) × (bytes.new ≡ bytes_of given bytes.old) }
     ensures memory { result ≢ NOMEM }

@@ -3,7 +3,7 @@ ghost use Rattle.std.specs.Prelude.{◌≡◌, ◌⊎◌, true, false, length, N
 ghost use Rattle.memory.specs.Objects.{object_limit};
 ghost use Rattle.placement.specs.declared.places.Place.{Place};
 ghost use Rattle.bpfagent_c.specs.Codes.{number_of_place, place_numbered};
-ghost use Rattle.bpfagent_c.specs.Told.{HasNone};
+ghost use Rattle.bpfagent_c.specs.Commanded.{HasNone};
 ghost use Rattle.bpfagent_c.specs.Shown.{over};
 ghost use Rattle.bpfagent_c.specs.Handing.{IsCalm, IsIn, bytes_at, is_at, standing};
 
@@ -81,7 +81,7 @@ pub extern "C" fn bpfagent_objects(
     objects: &mut [u32],
     count: &mut usize,
 ) -> u32
-    ensures told { (p : Place) → place_numbered place ≡ Some p → agent.old.live ≡ true
+    ensures replied { (p : Place) → place_numbered place ≡ Some p → agent.old.live ≡ true
         → (result ≡ OK) × IsCalm agent.old agent.new × (objects.new ≡ over (standing p agent.old.held.state.store.state object_limit) objects.old)
         × (count.new ≡ length (standing p agent.old.held.state.store.state object_limit)) }
     ensures bad { place_numbered place ≡ None → (result ≡ BAD) × (agent.new ≡ agent.old) × (objects.new ≡ objects.old) × (count.new ≡ count.old) }

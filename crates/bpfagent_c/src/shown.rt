@@ -4,7 +4,7 @@ ghost use Rattle.loader.specs.Refusals.{why_number};
 ghost use Rattle.bpfagent_c.specs.Codes.{code_of_state, stop_of_state};
 ghost use Rattle.bpfagent_c.specs.Shown.{over, grant_of, grants_of, IsGrant, AreGrants, end_after, value_of_step, value_of_stop, stop_of_step, ran_of_step};
 
-use crate::codes::{code_of_state, code_of_stop, stop_of_state};
+use crate::codes::{code_of_state, stop_of_state};
 use crate::numbers::GOES_ON;
 use debugger::StepReply;
 use loader::LoadError;
@@ -135,26 +135,26 @@ fn value_of_stop(stop: Stop) -> u64
 
 impl End {
     /// How steps ended, of which so many ran, and one was answered so.
-    pub(crate) fn after(ran: u64, told: StepReply) -> End
-        ensures { result ≡ end_after ran (Some told) }
+    pub(crate) fn after(ran: u64, reply: StepReply) -> End
+        ensures { result ≡ end_after ran (Some reply) }
     {
-        let (value, stop) = match told {
+        let (value, stop) = match reply {
             StepReply::Ran(slot) | StepReply::Hit(slot) | StepReply::Paused(slot) => {
                 (slot as u64, GOES_ON)
             }
             StepReply::Waiting(object) => (object as u64, GOES_ON),
-            StepReply::Stopped(stop) => (value_of_stop(stop), code_of_stop(stop)),
+            StepReply::Stopped(stop) => (value_of_stop(stop), stop.number()),
         };
         End { ran, value, stop }
     }
 
     /// How one step ended.
-    pub(crate) fn of_step(told: StepReply) -> End
-        ensures { result ≡ record { ran = ran_of_step told; value = value_of_step told; stop = stop_of_step told } }
+    pub(crate) fn of_step(reply: StepReply) -> End
+        ensures { result ≡ record { ran = ran_of_step reply; value = value_of_step reply; stop = stop_of_step reply } }
     {
-        match told {
-            StepReply::Ran(_) => End::after(1, told),
-            _ => End::after(0, told),
+        match reply {
+            StepReply::Ran(_) => End::after(1, reply),
+            _ => End::after(0, reply),
         }
     }
 
@@ -168,7 +168,7 @@ impl End {
                 value: 0,
                 stop: GOES_ON,
             },
-            Some(told) => End::after(ran, told),
+            Some(reply) => End::after(ran, reply),
         }
     }
 }

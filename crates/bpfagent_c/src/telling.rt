@@ -1,6 +1,6 @@
-//! Commands, told as numbers.
+//! Commands, whose replies are numbers.
 ghost use Rattle.std.specs.Prelude.{◌≡◌};
-ghost use Rattle.bpfagent_c.specs.Told.{Commanded, Told};
+ghost use Rattle.bpfagent_c.specs.Commanded.{Commanded, RepliesNumber};
 
 use crate::codes::code_of;
 use crate::handle::{Agent, give, take};
@@ -17,9 +17,9 @@ pub(crate) fn command(agent: &mut Agent, alloc: Global, event: Event) -> Option<
     Some(reply)
 }
 
-/// Does one command, and tells the number of its reply.
+/// Does one command, and gives the number of its reply.
 fn tell(agent: &mut Agent, alloc: Global, event: Event) -> u32
-    ensures { Told agent.old event result agent.new }
+    ensures { RepliesNumber agent.old event result agent.new }
 {
     let given = command(agent, alloc, event);
     code_of(&given)
@@ -32,14 +32,14 @@ pub(crate) fn tell_object(
     object: u32,
     command: ObjectCommand,
 ) -> u32
-    ensures { Told agent.old (Event.Object object command) result agent.new }
+    ensures { RepliesNumber agent.old (Event.Object object command) result agent.new }
 {
     tell(agent, alloc, Event::Object { object, command })
 }
 
 /// Does a move of an object, or ends it.
 pub(crate) fn tell_move(agent: &mut Agent, alloc: Global, object: u32, kind: Move) -> u32
-    ensures { Told agent.old (Event.Object object (ObjectCommand.Move kind)) result agent.new }
+    ensures { RepliesNumber agent.old (Event.Object object (ObjectCommand.Move kind)) result agent.new }
 {
     tell_object(agent, alloc, object, ObjectCommand::Move(kind))
 }
@@ -51,7 +51,7 @@ pub(crate) fn tell_debug(
     machine: usize,
     command: DebugCommand,
 ) -> u32
-    ensures { Told agent.old (Event.Machine machine (MachineCommand.Debug command)) result agent.new }
+    ensures { RepliesNumber agent.old (Event.Machine machine (MachineCommand.Debug command)) result agent.new }
 {
     let command = MachineCommand::Debug(command);
     tell(agent, alloc, Event::Machine { machine, command })

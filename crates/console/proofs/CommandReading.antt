@@ -149,8 +149,8 @@ asks_short line command s = said_short (tokens_of line) command s.1
 
 -- ---- replies
 
-pub show_short : (m : ℕ) (command : ShowCommand) (d : Debuggee) (told : ShowReply) → Shows command d told → AsksShort (Machine m (Show command))
-    → IsShort (Shown m told)
+pub show_short : (m : ℕ) (command : ShowCommand) (d : Debuggee) (replied : ShowReply) → Shows command d replied → AsksShort (Machine m (Show command))
+    → IsShort (Shown m replied)
 show_short m (Stack offset size) d (show_reply.Bytes shown) s short = let e = ap length s.1 in
     let l = length-take size (drop offset d.machine.stack) in omega (arith, e, l, short)
 show_short m _ d (show_reply.Bytes shown) s short = absurd s

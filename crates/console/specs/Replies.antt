@@ -5,6 +5,7 @@ use Rattle.hex.specs.Hex.{encode_lower}
 use Rattle.loader.specs.Refusals.{why_name}
 use Rattle.machine.specs.declared.state.Stop.{Stop}
 use Rattle.machine.specs.declared.state.Stop.TheVariants as stop
+use Rattle.machine.specs.Stops.{stop_name}
 use Rattle.placement.specs.declared.places.Place.{Place}
 use Rattle.placement.specs.declared.places.Place.TheVariants as place
 use Rattle.placement.specs.declared.places.Moved.{Moved}
@@ -33,16 +34,6 @@ number_text n = codes " " ++ decimal n
 -- a space and a register's value, as sixteen hex digits
 abbrev pub value_text : ℕ → List ℕ
 value_text v = codes " " ++ encode_lower (to_be_bytes w64 v)
-
--- the name of a stop
-abbrev pub stop_name : Stop → List ℕ
-stop_name (stop.Exit v) = codes "exit"
-stop_name stop.Outside = codes "outside"
-stop_name stop.Misaligned = codes "misaligned"
-stop_name stop.Depth = codes "depth"
-stop_name stop.Spent = codes "spent"
-stop_name stop.Worn = codes "worn"
-stop_name stop.NotGranted = codes "notgranted"
 
 -- the value of a stop, if it has one
 abbrev pub stop_value_text : Stop → List ℕ
@@ -117,8 +108,8 @@ reply_text (reply.Moved n kind m) = moved_text (move_name kind) (place_before ki
 reply_text reply.Done = codes "ok"
 reply_text (reply.Bytes bytes) = codes "bytes " ++ encode_lower bytes
 reply_text (reply.Shipped m) = codes "shipped" ++ number_text m
-reply_text (reply.Stepped m told) = step_text m told
-reply_text (reply.Shown m told) = show_text m told
+reply_text (reply.Stepped m replied) = step_text m replied
+reply_text (reply.Shown m replied) = show_text m replied
 reply_text (reply.Debugged done) = debug_text done
 reply_text reply.NoMemory = nomem_text
 reply_text reply.Full = codes "full"

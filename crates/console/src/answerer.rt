@@ -24,8 +24,8 @@ pub trait Answerer<C> {
     /// Does a command that a line spells, and makes the line of the reply.
     fn perform(&mut self, shared: &C, event: Event, reply: &mut ReplyLine)
         requires { (line : List ℕ) × SpellsCommand line event }
-        ensures { (told : protocol.Reply) × protocol.step (state self.old) event told (state self.new)
-            × (reply.new.items ≡ ended (protocol.text told)) };
+        ensures { (replied : protocol.Reply) × protocol.step (state self.old) event replied (state self.new)
+            × (reply.new.items ≡ ended (protocol.text replied)) };
 }
 
 /// The longest range that is read through a small room.
@@ -43,7 +43,7 @@ fn print_get_through<F: FarStore, const ROOM: usize>(
 )
     requires range { length ≤ ROOM }
     requires room { ROOM ≤ RANGE_LIMIT }
-    ensures { (told : Reply) × AnswersGet world.now.store.state object offset length told × (reply.new.items ≡ ended (reply_text told)) }
+    ensures { (replied : Reply) × AnswersGet world.now.store.state object offset length replied × (reply.new.items ≡ ended (reply_text replied)) }
 {
     let mut room = [0u8; ROOM];
     let bytes = &mut room[..length as usize];
@@ -62,7 +62,7 @@ fn print_get<F: FarStore>(
     reply: &mut ReplyLine,
 )
     requires { length ≤ RANGE_LIMIT }
-    ensures { (told : Reply) × AnswersGet world.now.store.state object offset length told × (reply.new.items ≡ ended (reply_text told)) }
+    ensures { (replied : Reply) × AnswersGet world.now.store.state object offset length replied × (reply.new.items ≡ ended (reply_text replied)) }
 {
     if length <= SMALL_RANGE {
         print_get_through::<F, 64>(world, object, offset, length, reply);

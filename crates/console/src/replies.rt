@@ -4,9 +4,10 @@ ghost use Rattle.arrayvec.specs.ArrayVec.{array_vec_len};
 ghost use Rattle.console.specs.Lines.{ended, bad_text, nomem_text};
 ghost use Rattle.hex.specs.Hex.{encode_lower};
 ghost use Rattle.loader.specs.Refusals.{why_name};
+ghost use Rattle.machine.specs.Stops.{stop_name};
 ghost use Rattle.world.specs.Machines.{reply_of};
 ghost use Rattle.world.specs.declared.replies.Reply.{Reply};
-ghost use Rattle.console.specs.Replies.{reply_text, number_text, value_text, stop_name, stop_value_text, state_name, shown_text, place_name, IsShort};
+ghost use Rattle.console.specs.Replies.{reply_text, number_text, value_text, stop_value_text, state_name, shown_text, place_name, IsShort};
 ghost use Rattle.console.specs.Replies.{step_text, show_text, debug_text, move_name, moved_text};
 
 use crate::digits::write_digits;
@@ -106,22 +107,6 @@ fn put_shown_bytes(line: &mut ReplyLine, bytes: &[u8])
     put_bytes(line, bytes);
 }
 
-/// The name of a stop.
-fn name_of_stop(stop: Stop) -> &'static [u8]
-    ensures name { result.now ≡ stop_name stop }
-    ensures short { length result.now ≤ 10 }
-{
-    match stop {
-        Stop::Exit(_) => b"exit",
-        Stop::Outside => b"outside",
-        Stop::Misaligned => b"misaligned",
-        Stop::Depth => b"depth",
-        Stop::Spent => b"spent",
-        Stop::Worn => b"worn",
-        Stop::NotGranted => b"notgranted",
-    }
-}
-
 /// Adds a stop, and its value if it has one.
 fn put_stop(line: &mut ReplyLine, stop: Stop)
     requires { array_vec_len line.old + 28 ≤ REPLY_LIMIT }
@@ -129,7 +114,7 @@ fn put_stop(line: &mut ReplyLine, stop: Stop)
     ensures short { array_vec_len line.new ≤ array_vec_len line.old + 28 }
 {
     line.put(b" ");
-    line.put(name_of_stop(stop));
+    line.put(stop.name());
     if let Stop::Exit(value) = stop {
         put_value(line, value);
     }
@@ -143,7 +128,7 @@ pub fn name_of_state(state: State) -> &'static [u8]
     match state {
         State::Running => b"run",
         State::Paused => b"paused",
-        State::Stopped(stop) => name_of_stop(stop),
+        State::Stopped(stop) => stop.name(),
     }
 }
 

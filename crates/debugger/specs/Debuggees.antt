@@ -45,7 +45,7 @@ pub record Walks {S : Type 0} (memory : Memories S) (way : Way) (old : Debuggee)
   pub answer : Stepped
   pub machine : MachineState
   pub step : TableStep memory old.machine before answer machine after
-  pub told : reply ≡ reply_after answer machine.slot old.debugger
+  pub replied : reply ≡ reply_after answer machine.slot old.debugger
   pub changed : new ≡ record { machine = machine; debugger = debugged way answer old.debugger }
 
 -- It is paused in place of a step, and nothing else changes.

@@ -1,4 +1,4 @@
--- A machine is told of nothing, and writes nothing, but what it was granted.
+-- A machine learns nothing, and writes nothing, but what it was granted.
 use Rattle.std.proofs.Common.{◌≡◌, ◌≢◌, ℕ, Bool, true, false, cond, nat_eq, not, ◌||◌, ◌&&◌, List, [], ◌∷◌, length, Option, Some, None, refl, ap, sym, ◌∙◌}
 use Rattle.std.proofs.Common.{subst, inl, inr, arith}
 use Rattle.std.specs.List.{list_any}
@@ -28,13 +28,12 @@ use Rattle.machine.specs.Rows.{Work}
 use Rattle.machine.specs.Rows.Work.{Computes, AccessesStack, Accesses, Measures}
 use Rattle.machine.specs.Grants.{GrantState, is_granted, is_listed, is_object_number, is_writing}
 use Rattle.machine.specs.MachineState.{MachineState, stack_size}
-use Rattle.machine.specs.Rows.{Request, MemoryAnswer, Outcome, read, asks, asks_for, told_for, told_own, told_call, exits, work_of, call_work, stop_before}
+use Rattle.machine.specs.Rows.{Request, Answer, Outcome, read, asks, asks_for, work_outcome, stack_outcome, call_outcome, exits, work_of, call_work, stop_before}
 use Rattle.machine.specs.Rows.{is_aligned, is_too_deep, is_granted_work}
 use Rattle.machine.specs.Rows.Request.{Nothing, Touch, Measure}
-use Rattle.machine.specs.Rows.MemoryAnswer.{NoAnswer, Reached, Measured}
 use Rattle.machine.specs.TableStep.{TableStep, AnswersRequest, Closes, StepsFrom}
 use Rattle.machine.specs.Confinement.{Agree, StepIsConfined, StepsAreConfined, StepsProtect}
-use Rattle.machine.proofs.StepCases.{StepCase, step_case, steps_told, steps_stayed}
+use Rattle.machine.proofs.StepCases.{StepCase, step_case, steps_answered, steps_stayed}
 use Rattle.machine.proofs.Changes.{map_closes}
 
 -- ---- what is asked is granted
@@ -111,14 +110,14 @@ touched a b mid nid n k op r s e i j f h p q o = either_number k n
     ∙ sym (ap (λ (x : List (List ℕ)). bytes_of x n) h ∙ accesses.bytes_accessed b n op j)))
     (λ t. accesses.others a mid n k op r p t ∙ o t ∙ sym (accesses.others b nid n k op s q t))
 
-abbrev Confined : GrantState → Request → List (List ℕ) → List (List ℕ) → MemoryAnswer → Type 0
+abbrev Confined : GrantState → (q : Request) → List (List ℕ) → List (List ℕ) → Answer q → Type 0
 Confined g q other mid said = (nid : List (List ℕ)) × AnswersRequest map_memory q other said nid × Agree g mid nid
 
 unchanged : (g : GrantState) (before other mid : List (List ℕ)) → Agree g before other → mid ≡ before → Agree g mid other
 unchanged g before other mid agree e = subst (λ (x : List (List ℕ)). Agree g x other) (sym e) agree
 
 reach_confined : (g : GrantState) (n : ℕ) (op : Op) (r : Reach) (before other mid : List (List ℕ)) → bytes_of before n ≡ bytes_of other n → Agree g before other
-    → map_memory.reaches before n op r mid → Confined g (Touch n op) other mid (Reached r)
+    → map_memory.reaches before n op r mid → Confined g (Touch n op) other mid r
 reach_confined g n op (reach.Done v) before other mid e agree h =
     let j = subst (λ l. IsInside op (length l)) e h.0 in
     let nid = with_bytes other n (after op (bytes_of other n)) in
@@ -128,14 +127,11 @@ reach_confined g n op reach.Outside before other mid e agree h =
     (other, ((λ i. h.0 (subst (λ l. IsInside op (length l)) (sym e) i)), refl), unchanged g before other mid agree h.1)
 reach_confined g n op _ before other mid e agree h = absurd h
 
-answer_confined : (g : GrantState) (q : Request) (before other mid : List (List ℕ)) (said : MemoryAnswer) → Allowed g q → Agree g before other
+answer_confined : (g : GrantState) (q : Request) (before other mid : List (List ℕ)) (said : Answer q) → Allowed g q → Agree g before other
     → AnswersRequest map_memory q before said mid → Confined g q other mid said
-answer_confined g Nothing before other mid NoAnswer l agree h = (other, refl, unchanged g before other mid agree h)
-answer_confined g (Measure n) before other mid (Measured k) l agree h = (other, (h.0 ∙ ap length (agree n l), refl), unchanged g before other mid agree h.1)
-answer_confined g (Touch n op) before other mid (Reached r) l agree h = reach_confined g n op r before other mid (agree n (reads g _ n l)) agree h
-answer_confined g Nothing before other mid _ l agree h = absurd h
-answer_confined g (Measure n) before other mid _ l agree h = absurd h
-answer_confined g (Touch n op) before other mid _ l agree h = absurd h
+answer_confined g Nothing before other mid said l agree h = (other, refl, unchanged g before other mid agree h)
+answer_confined g (Measure n) before other mid k l agree h = (other, (h.0 ∙ ap length (agree n l), refl), unchanged g before other mid agree h.1)
+answer_confined g (Touch n op) before other mid r l agree h = reach_confined g n op r before other mid (agree n (reads g _ n l)) agree h
 
 -- ---- one step
 
@@ -159,7 +155,7 @@ case_confined old before other mid o agree (inr (inr d)) =
     let a = answer_confined old.grants (asks d.instr old) before other mid d.said (allowed d.instr old d.attempts.free) agree d.answers in (
       a.0,
       subst (λ (p : Outcome). StepsFrom old.stop map_memory old other p a.0) (sym d.becomes)
-          (steps_told map_memory d.instr old other a.0 d.said d.attempts a.1),
+          (steps_answered map_memory d.instr old other a.0 d.said d.attempts a.1),
       a.2,
     )
 
@@ -169,11 +165,11 @@ closed_map false x = refl
 
 -- ---- the grants stay
 
-own_keeps : (b : Bool) (i : Instr) (x : Accessing) (old : MachineState) → (told_own b i x old).machine.grants ≡ old.grants
+own_keeps : (b : Bool) (i : Instr) (x : Accessing) (old : MachineState) → (stack_outcome b i x old).machine.grants ≡ old.grants
 own_keeps true i x old = refl
 own_keeps false i x old = refl
 
-call_keeps : (o : Option Helper) (i : Instr) (bytes : ℕ) (old : MachineState) → (told_call i o bytes old).machine.grants ≡ old.grants
+call_keeps : (o : Option Helper) (i : Instr) (bytes : ℕ) (old : MachineState) → (call_outcome i o bytes old).machine.grants ≡ old.grants
 call_keeps (Some h) i bytes old = refl
 call_keeps None i bytes old = refl
 
@@ -181,24 +177,22 @@ exit_keeps : (frames : List Frame) (old : MachineState) → (exits frames old).m
 exit_keeps [] old = refl
 exit_keeps (f ∷ frames) old = refl
 
-told_keeps : (w : Work) (i : Instr) (old : MachineState) (a : MemoryAnswer) → (told_for w i old a).machine.grants ≡ old.grants
-told_keeps (Accesses x) i old (Reached (reach.Done v)) = refl
-told_keeps (Accesses x) i old (Reached reach.Away) = refl
-told_keeps (Accesses x) i old (Reached reach.Busy) = refl
-told_keeps (Accesses x) i old (Reached reach.Outside) = refl
-told_keeps (Accesses x) i old (Reached reach.Worn) = refl
-told_keeps (Accesses x) i old _ = refl
-told_keeps (AccessesStack x) i old a = own_keeps (is_inside x.op stack_size) i x old
-told_keeps (Measures k) i old (Measured l) = refl
-told_keeps (Measures k) i old _ = refl
-told_keeps Computes Exit old a = exit_keeps old.frames old
-told_keeps Computes (CallHelper id) old a = call_keeps (helper_of id) (CallHelper id) 0 old
-told_keeps Computes _ old a = refl
+outcome_keeps : (w : Work) (i : Instr) (old : MachineState) (a : Answer (asks_for w)) → (work_outcome w i old a).machine.grants ≡ old.grants
+outcome_keeps (Accesses x) i old (reach.Done v) = refl
+outcome_keeps (Accesses x) i old reach.Away = refl
+outcome_keeps (Accesses x) i old reach.Busy = refl
+outcome_keeps (Accesses x) i old reach.Outside = refl
+outcome_keeps (Accesses x) i old reach.Worn = refl
+outcome_keeps (AccessesStack x) i old a = own_keeps (is_inside x.op stack_size) i x old
+outcome_keeps (Measures k) i old l = refl
+outcome_keeps Computes Exit old a = exit_keeps old.frames old
+outcome_keeps Computes (CallHelper id) old a = call_keeps (helper_of id) (CallHelper id) 0 old
+outcome_keeps Computes _ old a = refl
 
 case_keeps : {M : Type 0} (mem : Memories M) (old : MachineState) (before mid : M) (o : Outcome) → StepCase mem old before o mid → o.machine.grants ≡ old.grants
 case_keeps mem old before mid o (inl d) = ap (λ (x : Outcome). x.machine.grants) d.becomes
 case_keeps mem old before mid o (inr (inl d)) = ap (λ (x : Outcome). x.machine.grants) d.becomes
-case_keeps mem old before mid o (inr (inr d)) = ap (λ (x : Outcome). x.machine.grants) d.becomes ∙ told_keeps (work_of d.instr old) d.instr old d.said
+case_keeps mem old before mid o (inr (inr d)) = ap (λ (x : Outcome). x.machine.grants) d.becomes ∙ outcome_keeps (work_of d.instr old) d.instr old d.said
 
 pub keeps : {M : Type 0} (mem : Memories M) (old new : MachineState) (before after : M) (a : Stepped)
     → TableStep mem old before a new after → new.grants ≡ old.grants
@@ -242,14 +236,11 @@ touch_protects g n k op (reach.Done v) before mid false e l p h = either_number 
     (λ t. accesses.others before mid n k op (reach.Done v) h t)
 touch_protects g n k op _ before mid w e l p h = absurd h
 
-answer_protects : (g : GrantState) (q : Request) (k : ℕ) (before mid : List (List ℕ)) (said : MemoryAnswer) → Allowed g q → is_granted g true k ≡ false
+answer_protects : (g : GrantState) (q : Request) (k : ℕ) (before mid : List (List ℕ)) (said : Answer q) → Allowed g q → is_granted g true k ≡ false
     → AnswersRequest map_memory q before said mid → bytes_of mid k ≡ bytes_of before k
-answer_protects g Nothing k before mid NoAnswer l p h = ap (λ (x : List (List ℕ)). bytes_of x k) h
-answer_protects g (Measure n) k before mid (Measured b) l p h = ap (λ (x : List (List ℕ)). bytes_of x k) h.1
-answer_protects g (Touch n op) k before mid (Reached r) l p h = touch_protects g n k op r before mid _ refl l p h
-answer_protects g Nothing k before mid _ l p h = absurd h
-answer_protects g (Measure n) k before mid _ l p h = absurd h
-answer_protects g (Touch n op) k before mid _ l p h = absurd h
+answer_protects g Nothing k before mid said l p h = ap (λ (x : List (List ℕ)). bytes_of x k) h
+answer_protects g (Measure n) k before mid b l p h = ap (λ (x : List (List ℕ)). bytes_of x k) h.1
+answer_protects g (Touch n op) k before mid r l p h = touch_protects g n k op r before mid _ refl l p h
 
 case_protects : (old : MachineState) (k : ℕ) (before mid : List (List ℕ)) (o : Outcome) → is_granted old.grants true k ≡ false
     → StepCase map_memory old before o mid → bytes_of mid k ≡ bytes_of before k

@@ -11,11 +11,10 @@ use Rattle.machine.specs.Granted.{WasGranted, EntriesAreGranted, AnswersAgree, R
 use Rattle.machine.specs.Grants.{GrantState}
 use Rattle.machine.specs.MachineState.{MachineState}
 use Rattle.machine.specs.Replay.{recorded_memory, Replays, StopsThere}
-use Rattle.machine.specs.Rows.{Request, MemoryAnswer, asks, told}
+use Rattle.machine.specs.Rows.{Request, Answer, asks, row_outcome}
 use Rattle.machine.specs.Rows.Request.{Nothing, Touch, Measure}
-use Rattle.machine.specs.Rows.MemoryAnswer.{NoAnswer, Reached, Measured}
 use Rattle.machine.proofs.Confined.{Allowed, allowed, keeps}
-use Rattle.machine.proofs.SameReplays.{Fed, Advanced, advanced}
+use Rattle.machine.proofs.SameReplays.{Fed, Advanced, AdvancedBy, advanced}
 use Rattle.machine.proofs.Stopping.{stops_in_place}
 use Rattle.machine.proofs.ValidRows.{same_next}
 
@@ -24,24 +23,22 @@ use Rattle.machine.proofs.ValidRows.{same_next}
 none_granted : (lengths : ℕ → ℕ) (g : GrantState) (more : List Entry) → more ≡ [] → All (WasGranted lengths g) more
 none_granted lengths g more e = subst (λ (l : List Entry). All (WasGranted lengths g) l) (sym e) (All-nil (WasGranted lengths g))
 
-fed_granted : (lengths : ℕ → ℕ) (g : GrantState) (q : Request) (more : List Entry) (said : MemoryAnswer) → Allowed g q → Fed lengths q more said
+fed_granted : (lengths : ℕ → ℕ) (g : GrantState) (q : Request) (more : List Entry) (said : Answer q) → Allowed g q → Fed lengths q more said
     → All (WasGranted lengths g) more
-fed_granted lengths g Nothing more NoAnswer l f = none_granted lengths g more f
-fed_granted lengths g (Measure n) more (Measured k) l f = none_granted lengths g more f.0
-fed_granted lengths g (Touch n op) more (Reached (reach.Done v)) l f =
+fed_granted lengths g Nothing more said l f = none_granted lengths g more f
+fed_granted lengths g (Measure n) more k l f = none_granted lengths g more f.0
+fed_granted lengths g (Touch n op) more (reach.Done v) l f =
     subst (λ (es : List Entry). All (WasGranted lengths g) es) (sym f.1)
     (All-cons (WasGranted lengths g) (record { number = n; deed = Accesses op; given = Number v }) []
     (record { op = op; deed_is = refl; inside = f.0; granted = l }) (All-nil (WasGranted lengths g)))
-fed_granted lengths g Nothing more _ l f = absurd f
-fed_granted lengths g (Measure n) more _ l f = absurd f
 fed_granted lengths g (Touch n op) more _ l f = absurd f
 
 step_granted : (lengths : ℕ → ℕ) (g : GrantState) (old new : MachineState) (es fs : List Entry) → old.grants ≡ g → Advanced lengths old es new fs
     → All (WasGranted lengths g) es → All (WasGranted lengths g) fs
 step_granted lengths g old new es fs same a h =
     let l = subst (λ (x : GrantState). Allowed x (asks a.instr old)) same (allowed a.instr old a.attempts.free) in
-    subst (λ (x : List Entry). All (WasGranted lengths g) x) (sym a.added.grown)
-    (All-append (WasGranted lengths g) es a.added.more h (fed_granted lengths g (asks a.instr old) a.added.more a.said l a.added.fed))
+    subst (λ (x : List Entry). All (WasGranted lengths g) x) (sym a.by.added.grown)
+    (All-append (WasGranted lengths g) es a.by.added.more h (fed_granted lengths g (asks a.instr old) a.by.added.more a.by.said l a.by.added.fed))
 
 all_granted : (lengths : ℕ → ℕ) (worn : ℕ → Bool) (k : ℕ) (start m : MachineState) (es : List Entry) → Replays lengths worn k start es m
     → (m.grants ≡ start.grants) × All (WasGranted lengths start.grants) es
@@ -67,37 +64,32 @@ number_is : (x y : ℕ) → Number x ≡ Number y → x ≡ y
 number_is x y e = cc
 
 -- the part of what a machine did in which it went on from these entries
-same_told : (lengths others : ℕ → ℕ) (g : GrantState) (q : Request) (es more other xs ys : List Entry) (said heard : MemoryAnswer) → Allowed g q
+same_answer : (lengths others : ℕ → ℕ) (g : GrantState) (q : Request) (es more other xs ys : List Entry) (said heard : Answer q) → Allowed g q
     → AnswersAgree g lengths others ((es ++ more) ++ xs) ((es ++ other) ++ ys) → Fed lengths q more said → Fed others q other heard
     → (said ≡ heard) × (more ≡ other)
-same_told lengths others g Nothing es more other xs ys NoAnswer NoAnswer l a f h = (refl, f ∙ sym h)
-same_told lengths others g Nothing es more other xs ys NoAnswer _ l a f h = absurd h
-same_told lengths others g Nothing es more other xs ys _ heard l a f h = absurd f
-same_told lengths others g (Measure n) es more other xs ys (Measured j) (Measured k) l a f h =
-    (ap (λ c. Measured c) (f.1 ∙ a.long n l ∙ sym h.1), f.0 ∙ sym h.0)
-same_told lengths others g (Measure n) es more other xs ys (Measured j) _ l a f h = absurd h
-same_told lengths others g (Measure n) es more other xs ys _ heard l a f h = absurd f
-same_told lengths others g (Touch n op) es more other xs ys (Reached (reach.Done v)) (Reached (reach.Done w)) l a f h =
+same_answer lengths others g Nothing es more other xs ys said heard l a f h = (refl, f ∙ sym h)
+same_answer lengths others g (Measure n) es more other xs ys j k l a f h = (f.1 ∙ a.long n l ∙ sym h.1, f.0 ∙ sym h.0)
+same_answer lengths others g (Touch n op) es more other xs ys (reach.Done v) (reach.Done w) l a f h =
     let e : Entry = record { number = n; deed = Accesses op; given = Number v } in
     let d : Entry = record { number = n; deed = Accesses op; given = Number w } in
     let one = ap (λ (t : List Entry). (es ++ t) ++ xs) f.1 ∙ append_assoc es (e ∷ []) xs in
     let two = ap (λ (t : List Entry). (es ++ t) ++ ys) h.1 ∙ append_assoc es (d ∷ []) ys in
     let same : v ≡ w = number_is v w (a.given es xs ys e d one two refl refl l) in
-    (ap (λ c. Reached (reach.Done c)) same, f.1 ∙ ap (λ c. entries_added n op (reach.Done c)) same ∙ sym h.1)
-same_told lengths others g (Touch n op) es more other xs ys (Reached (reach.Done v)) _ l a f h = absurd h
-same_told lengths others g (Touch n op) es more other xs ys _ heard l a f h = absurd f
+    (ap (λ c. reach.Done c) same, f.1 ∙ ap (λ c. entries_added n op (reach.Done c)) same ∙ sym h.1)
+same_answer lengths others g (Touch n op) es more other xs ys (reach.Done v) _ l a f h = absurd h
+same_answer lengths others g (Touch n op) es more other xs ys _ heard l a f h = absurd f
 
 same_step : (lengths others : ℕ → ℕ) (g : GrantState) (old new aside : MachineState) (es fs gs xs ys : List Entry) → old.grants ≡ g
     → AnswersAgree g lengths others (fs ++ xs) (gs ++ ys) → Advanced lengths old es new fs → Advanced others old es aside gs → (new ≡ aside) × (fs ≡ gs)
 same_step lengths others g old new aside es fs gs xs ys kept a p q =
     let instr : q.instr ≡ p.instr = same_next old q.instr p.instr q.attempts.next p.attempts.next in
-    let fed = subst (λ (i : Instr). Fed others (asks i old) q.added.more q.said) instr q.added.fed in
+    let d = subst (λ (i : Instr). AdvancedBy others old es aside gs i) instr q.by in
     let l = subst (λ (x : GrantState). Allowed x (asks p.instr old)) kept (allowed p.instr old p.attempts.free) in
-    let b = subst (λ (t : List Entry). AnswersAgree g lengths others (t ++ xs) ((es ++ q.added.more) ++ ys)) p.added.grown
-    (subst (λ (t : List Entry). AnswersAgree g lengths others (fs ++ xs) (t ++ ys)) q.added.grown a) in
-    let same = same_told lengths others g (asks p.instr old) es p.added.more q.added.more xs ys p.said q.said l b p.added.fed fed in (
-      p.becomes ∙ ap (λ (s : MemoryAnswer). (told p.instr old s).machine) same.0 ∙ ap (λ (i : Instr). (told i old q.said).machine) (sym instr) ∙ sym q.becomes,
-      p.added.grown ∙ ap (λ (t : List Entry). es ++ t) same.1 ∙ sym q.added.grown,
+    let b = subst (λ (t : List Entry). AnswersAgree g lengths others (t ++ xs) ((es ++ d.added.more) ++ ys)) p.by.added.grown
+    (subst (λ (t : List Entry). AnswersAgree g lengths others (fs ++ xs) (t ++ ys)) d.added.grown a) in
+    let same = same_answer lengths others g (asks p.instr old) es p.by.added.more d.added.more xs ys p.by.said d.said l b p.by.added.fed d.added.fed in (
+      p.by.becomes ∙ ap (λ (s : Answer (asks p.instr old)). (row_outcome p.instr old s).machine) same.0 ∙ sym d.becomes,
+      p.by.added.grown ∙ ap (λ (t : List Entry). es ++ t) same.1 ∙ sym d.added.grown,
     )
 
 same_replay : (lengths others : ℕ → ℕ) (worn marked : ℕ → Bool) (k : ℕ) (start m n : MachineState) (es fs xs ys : List Entry)
@@ -108,11 +100,11 @@ same_replay lengths others worn marked (suc k) start m n es fs xs ys a p q =
     let g : GrantState = start.grants in
     let c = advanced lengths worn p.0 p.1 m es p.3 in
     let d = advanced others marked q.0 q.1 n fs q.3 in
-    let one = ap (λ (l : List Entry). l ++ xs) c.added.grown ∙ append_assoc p.1 c.added.more xs in
-    let two = ap (λ (l : List Entry). l ++ ys) d.added.grown ∙ append_assoc q.1 d.added.more ys in
-    let b = subst (λ (t : List Entry). AnswersAgree g lengths others t (q.1 ++ (d.added.more ++ ys))) one
+    let one = ap (λ (l : List Entry). l ++ xs) c.by.added.grown ∙ append_assoc p.1 c.by.added.more xs in
+    let two = ap (λ (l : List Entry). l ++ ys) d.by.added.grown ∙ append_assoc q.1 d.by.added.more ys in
+    let b = subst (λ (t : List Entry). AnswersAgree g lengths others t (q.1 ++ (d.by.added.more ++ ys))) one
     (subst (λ (t : List Entry). AnswersAgree g lengths others (es ++ xs) t) two a) in
-    let before = same_replay lengths others worn marked k start p.0 q.0 p.1 q.1 (c.added.more ++ xs) (d.added.more ++ ys) b p.2 q.2 in
+    let before = same_replay lengths others worn marked k start p.0 q.0 p.1 q.1 (c.by.added.more ++ xs) (d.by.added.more ++ ys) b p.2 q.2 in
     let e = subst (λ (x : MachineState). Advanced others x p.1 n fs) (sym before.0)
     (subst (λ (l : List Entry). Advanced others q.0 l n fs) (sym before.1) d) in
     same_step lengths others g p.0 m n p.1 es fs xs ys (all_granted lengths worn k start p.0 p.1 p.2).0 a c e

@@ -17,14 +17,13 @@ use Rattle.machine.specs.declared.state.Stop.TheVariants as stop
 use Rattle.machine.specs.declared.state.Stepped.{Stepped}
 use Rattle.machine.specs.declared.state.Stepped.TheVariants.{Ran, Waiting, Stopped}
 use Rattle.machine.specs.MachineState.{MachineState}
-use Rattle.machine.specs.Rows.{Request, MemoryAnswer, Outcome, asks_for, told, told_for, told_access, work_of}
+use Rattle.machine.specs.Rows.{Request, Answer, Outcome, asks_for, row_outcome, work_outcome, object_outcome, work_of}
 use Rattle.machine.specs.Rows.Request.{Nothing, Touch}
-use Rattle.machine.specs.Rows.MemoryAnswer.{NoAnswer, Reached, Measured}
 use Rattle.machine.specs.TableStep.{TableStep, AnswersRequest, Closes, StepsFrom}
 use Rattle.machine.specs.Carrying.{goes}
 use Rattle.machine.specs.Laws.{IsWaiting, FuelPaid}
 use Rattle.machine.specs.Replay.{recorded_memory, Replays, StopsThere, IsReplay, StartsAsReplay, ReplaysOn, StaysReplay}
-use Rattle.machine.proofs.StepCases.{StepCase, step_case, steps_told, steps_stopped}
+use Rattle.machine.proofs.StepCases.{StepCase, step_case, steps_answered, steps_stopped}
 use Rattle.machine.proofs.Stopping.{stopped_stays, stops_in_place, waits_in_place}
 use Rattle.machine.proofs.Fuel.{fuel_counts}
 
@@ -36,7 +35,7 @@ starts_as_replay lengths worn start = record { reached = start; steps = 0; fuel 
 -- A request that was answered so did this to the memory, and is answered so by the entries too, which these are added to. A
 -- stop adds none.
 record Recorded {M : Type 0} (mem : Memories M) (lengths : ℕ → ℕ) (worn : ℕ
-    → Bool) (q : Request) (answer : Stepped) (es : List Entry) (before : M) (said : MemoryAnswer) (mid : M) : Type 0 where
+    → Bool) (q : Request) (answer : Stepped) (es : List Entry) (before : M) (said : Answer q) (mid : M) : Type 0 where
   more : List Entry
   did : Did mem before more mid
   answers : AnswersRequest (recorded_memory lengths worn) q es said (es ++ more)
@@ -55,14 +54,14 @@ ran_on : {P : Type 0} (w : Option Written) (s : Stop) → Ran w ≡ Stopped s �
 ran_on w s e = absurd (cc)
 
 record_nothing : {M : Type 0} (mem : Memories M) (lengths : ℕ → ℕ) (worn : ℕ → Bool) (answer : Stepped) (es : List Entry) (before mid : M) → mid ≡ before
-    → Recorded mem lengths worn Nothing answer es before NoAnswer mid
+    → Recorded mem lengths worn Nothing answer es before tt mid
 record_nothing mem lengths worn answer es before mid h = record { more = []; did = did_same mem before mid h; answers = append-nil es; none = λ s e. refl }
 
 record_reach : {M : Type 0} (mem : Memories M) (lengths : ℕ → ℕ) (worn : ℕ
     → Bool) (i : Instr) (x : Accessing) (old : MachineState) (es : List Entry) (before mid : M) (r : Reach)
-    → KeepsPromises mem → HasLengths mem before lengths → IsMarked mem mid worn → goes (told_access i x old (Reached r)).answer ≡ true
+    → KeepsPromises mem → HasLengths mem before lengths → IsMarked mem mid worn → goes (object_outcome i x old r).answer ≡ true
     → mem.reaches before x.number x.op r mid
-    → Recorded mem lengths worn (Touch x.number x.op) (told_access i x old (Reached r)).answer es before (Reached r) mid
+    → Recorded mem lengths worn (Touch x.number x.op) (object_outcome i x old r).answer es before r mid
 record_reach mem lengths worn i x old es before mid (reach.Done v) p l k g h = record {
   more = entries_added x.number x.op (reach.Done v);
   did = p.reaches before mid x.number x.op (reach.Done v) h;
@@ -85,23 +84,19 @@ record_reach mem lengths worn i x old es before mid reach.Away p l k g h = absur
 record_reach mem lengths worn i x old es before mid reach.Busy p l k g h = absurd (cc)
 
 record_request : {M : Type 0} (mem : Memories M) (lengths : ℕ → ℕ) (worn : ℕ
-    → Bool) (w : Work) (i : Instr) (old : MachineState) (es : List Entry) (before mid : M) (said : MemoryAnswer)
-    → KeepsPromises mem → HasLengths mem before lengths → IsMarked mem mid worn → goes (told_for w i old said).answer ≡ true
+    → Bool) (w : Work) (i : Instr) (old : MachineState) (es : List Entry) (before mid : M) (said : Answer (asks_for w))
+    → KeepsPromises mem → HasLengths mem before lengths → IsMarked mem mid worn → goes (work_outcome w i old said).answer ≡ true
     → AnswersRequest mem (asks_for w) before said mid
-    → Recorded mem lengths worn (asks_for w) (told_for w i old said).answer es before said mid
-record_request mem lengths worn Computes i old es before mid NoAnswer p l k g h = record_nothing mem lengths worn _ es before mid h
-record_request mem lengths worn Computes i old es before mid _ p l k g h = absurd h
-record_request mem lengths worn (Measures n) i old es before mid (Measured c) p l k g h = record {
+    → Recorded mem lengths worn (asks_for w) (work_outcome w i old said).answer es before said mid
+record_request mem lengths worn Computes i old es before mid said p l k g h = record_nothing mem lengths worn _ es before mid h
+record_request mem lengths worn (Measures n) i old es before mid c p l k g h = record {
   more = [];
   did = did_same mem before mid h.1;
   answers = (h.0 ∙ l n, append-nil es);
   none = λ s e. refl;
 }
-record_request mem lengths worn (Measures n) i old es before mid _ p l k g h = absurd h
-record_request mem lengths worn (AccessesStack x) i old es before mid NoAnswer p l k g h = record_nothing mem lengths worn _ es before mid h
-record_request mem lengths worn (AccessesStack x) i old es before mid _ p l k g h = absurd h
-record_request mem lengths worn (Accesses x) i old es before mid (Reached r) p l k g h = record_reach mem lengths worn i x old es before mid r p l k g h
-record_request mem lengths worn (Accesses x) i old es before mid _ p l k g h = absurd h
+record_request mem lengths worn (AccessesStack x) i old es before mid said p l k g h = record_nothing mem lengths worn _ es before mid h
+record_request mem lengths worn (Accesses x) i old es before mid r p l k g h = record_reach mem lengths worn i x old es before mid r p l k g h
 
 -- ---- the replay after a step
 
@@ -208,10 +203,10 @@ case_replay mem lengths worn start old new es before mid after a closes p l k g 
     }
 case_replay mem lengths worn start old new es before mid after a closes p l k g c e r f (inr (inr d)) =
     let o : Outcome = record { machine = new; answer = a; closes = closes } in
-    let same : (told d.instr old d.said).answer ≡ a = sym (ap (λ (x : Outcome). x.answer) d.becomes) in
+    let same : (row_outcome d.instr old d.said).answer ≡ a = sym (ap (λ (x : Outcome). x.answer) d.becomes) in
     let w = record_request mem lengths worn (work_of d.instr old) d.instr old es before mid d.said p l k (ap goes same ∙ g) d.answers in
     let steps = subst (λ (x : Outcome). StepsFrom old.stop (recorded_memory lengths worn) old es x (es ++ w.more)) (sym d.becomes)
-    (steps_told (recorded_memory lengths worn) d.instr old es (es ++ w.more) d.said d.attempts w.answers) in
+    (steps_answered (recorded_memory lengths worn) d.instr old es (es ++ w.more) d.said d.attempts w.answers) in
     record {
       more = w.more;
       did = joined mem before mid after w.more w.did (did_closed mem closes mid after p c);

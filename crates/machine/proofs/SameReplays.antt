@@ -11,24 +11,23 @@ use Rattle.machine.specs.declared.state.Accessing.{Accessing}
 use Rattle.machine.specs.Rows.{Work}
 use Rattle.machine.specs.Rows.Work.{Computes, AccessesStack, Accesses, Measures}
 use Rattle.machine.specs.MachineState.{MachineState}
-use Rattle.machine.specs.Rows.{Request, MemoryAnswer, Outcome, asks, asks_for, told, told_for, told_access, work_of}
+use Rattle.machine.specs.Rows.{Request, Answer, Outcome, asks, asks_for, row_outcome, work_outcome, object_outcome, work_of}
 use Rattle.machine.specs.Rows.Request.{Nothing, Touch, Measure}
-use Rattle.machine.specs.Rows.MemoryAnswer.{NoAnswer, Reached, Measured}
 use Rattle.machine.specs.TableStep.{Attempts, AnswersRequest, Closes}
 use Rattle.machine.specs.Replay.{recorded_memory, Advances, Replays, ReplaysOneWay}
 use Rattle.machine.proofs.ValidRows.{same_next}
 use Rattle.machine.proofs.StepCases.{StepCase, step_case}
 
--- ---- what an instruction that took fuel was told, by the entries that it added
+-- ---- what an instruction that took fuel was answered, by the entries that it added
 
 -- an access that was done was inside its object
-abbrev pub Fed : (ℕ → ℕ) → Request → List Entry → MemoryAnswer → Type 0
-Fed lengths Nothing more NoAnswer = more ≡ []
-Fed lengths (Measure n) more (Measured k) = (more ≡ []) × (k ≡ lengths n)
-Fed lengths (Touch n op) more (Reached (reach.Done v)) = IsInside op (lengths n) × (more ≡ entries_added n op (reach.Done v))
-Fed lengths _ more _ = ⊥
+abbrev pub Fed : (ℕ → ℕ) → (q : Request) → List Entry → Answer q → Type 0
+Fed lengths Nothing more said = more ≡ []
+Fed lengths (Measure n) more k = (more ≡ []) × (k ≡ lengths n)
+Fed lengths (Touch n op) more (reach.Done v) = IsInside op (lengths n) × (more ≡ entries_added n op (reach.Done v))
+Fed lengths (Touch n op) more _ = ⊥
 
-pub record Grown (lengths : ℕ → ℕ) (q : Request) (said : MemoryAnswer) (es fs : List Entry) : Type 0 where
+pub record Grown (lengths : ℕ → ℕ) (q : Request) (said : Answer q) (es fs : List Entry) : Type 0 where
   pub more : List Entry
   pub fed : Fed lengths q more said
   pub grown : fs ≡ es ++ more
@@ -41,34 +40,33 @@ unchanged es fs e = e ∙ sym (append_nil es)
     append_nil (x ∷ l) = ap (λ (r : List Entry). x ∷ r) (append_nil l)
 
 grown_reach : (lengths : ℕ → ℕ) (worn : ℕ → Bool) (i : Instr) (x : Accessing) (old : MachineState) (es fs : List Entry) (r : Reach)
-    → (told_access i x old (Reached r)).machine.fuel + 1 ≡ old.fuel
-    → (recorded_memory lengths worn).reaches es x.number x.op r fs → Grown lengths (Touch x.number x.op) (Reached r) es fs
+    → (object_outcome i x old r).machine.fuel + 1 ≡ old.fuel
+    → (recorded_memory lengths worn).reaches es x.number x.op r fs → Grown lengths (Touch x.number x.op) r es fs
 grown_reach lengths worn i x old es fs (reach.Done v) f h = record { more = entries_added x.number x.op (reach.Done v); fed = (h.0, refl); grown = h.1 }
 grown_reach lengths worn i x old es fs reach.Outside f h = absurd (omega arith)
 grown_reach lengths worn i x old es fs reach.Worn f h = absurd (omega arith)
 grown_reach lengths worn i x old es fs reach.Away f h = absurd h
 grown_reach lengths worn i x old es fs reach.Busy f h = absurd h
 
-grown_by : (lengths : ℕ → ℕ) (worn : ℕ → Bool) (w : Work) (i : Instr) (old : MachineState) (es fs : List Entry) (said : MemoryAnswer)
-    → (told_for w i old said).machine.fuel + 1 ≡ old.fuel
+grown_by : (lengths : ℕ → ℕ) (worn : ℕ → Bool) (w : Work) (i : Instr) (old : MachineState) (es fs : List Entry) (said : Answer (asks_for w))
+    → (work_outcome w i old said).machine.fuel + 1 ≡ old.fuel
     → AnswersRequest (recorded_memory lengths worn) (asks_for w) es said fs → Grown lengths (asks_for w) said es fs
-grown_by lengths worn Computes i old es fs NoAnswer f h = record { more = []; fed = refl; grown = unchanged es fs h }
-grown_by lengths worn Computes i old es fs _ f h = absurd h
-grown_by lengths worn (Measures n) i old es fs (Measured k) f h = record { more = []; fed = (refl, h.0); grown = unchanged es fs h.1 }
-grown_by lengths worn (Measures n) i old es fs _ f h = absurd h
-grown_by lengths worn (AccessesStack x) i old es fs NoAnswer f h = record { more = []; fed = refl; grown = unchanged es fs h }
-grown_by lengths worn (AccessesStack x) i old es fs _ f h = absurd h
-grown_by lengths worn (Accesses x) i old es fs (Reached r) f h = grown_reach lengths worn i x old es fs r f h
-grown_by lengths worn (Accesses x) i old es fs _ f h = absurd h
+grown_by lengths worn Computes i old es fs said f h = record { more = []; fed = refl; grown = unchanged es fs h }
+grown_by lengths worn (Measures n) i old es fs k f h = record { more = []; fed = (refl, h.0); grown = unchanged es fs h.1 }
+grown_by lengths worn (AccessesStack x) i old es fs said f h = record { more = []; fed = refl; grown = unchanged es fs h }
+grown_by lengths worn (Accesses x) i old es fs r f h = grown_reach lengths worn i x old es fs r f h
 
 -- ---- an instruction that took fuel
+
+pub record AdvancedBy (lengths : ℕ → ℕ) (old : MachineState) (es : List Entry) (new : MachineState) (fs : List Entry) (instr : Instr) : Type 0 where
+  pub said : Answer (asks instr old)
+  pub added : Grown lengths (asks instr old) said es fs
+  pub becomes : new ≡ (row_outcome instr old said).machine
 
 pub record Advanced (lengths : ℕ → ℕ) (old : MachineState) (es : List Entry) (new : MachineState) (fs : List Entry) : Type 0 where
   pub instr : Instr
   pub attempts : Attempts old instr
-  pub said : MemoryAnswer
-  pub added : Grown lengths (asks instr old) said es fs
-  pub becomes : new ≡ (told instr old said).machine
+  pub by : AdvancedBy lengths old es new fs instr
 
 closes_same : (lengths : ℕ → ℕ) (worn : ℕ → Bool) (b : Bool) (es fs : List Entry) → Closes b (recorded_memory lengths worn) es fs → fs ≡ es
 closes_same lengths worn true es fs h = h
@@ -83,9 +81,11 @@ case_advanced lengths worn old es fs o f (inr (inr d)) =
     record {
       instr = d.instr;
       attempts = d.attempts;
-      said = d.said;
-      added = grown_by lengths worn (work_of d.instr old) d.instr old es fs d.said (ap (λ n. n + 1) (sym k) ∙ f) d.answers;
-      becomes = ap (λ (x : Outcome). x.machine) d.becomes;
+      by = record {
+        said = d.said;
+        added = grown_by lengths worn (work_of d.instr old) d.instr old es fs d.said (ap (λ n. n + 1) (sym k) ∙ f) d.answers;
+        becomes = ap (λ (x : Outcome). x.machine) d.becomes;
+      };
     }
 
 pub advanced : (lengths : ℕ → ℕ) (worn : ℕ → Bool) (old : MachineState) (es : List Entry) (new : MachineState) (fs : List Entry)
@@ -109,31 +109,27 @@ next_is : (es : List Entry) (a b : Entry) (xs ys : List Entry) → (es ++ a ∷ 
 next_is [] a b xs ys e = head_is a b xs ys e
 next_is (z ∷ es) a b xs ys e = next_is es a b xs ys (tail_is z z _ _ e)
 
-same_told : (lengths : ℕ → ℕ) (q : Request) (es more other xs ys : List Entry) (said heard : MemoryAnswer) → Fed lengths q more said
+same_answer : (lengths : ℕ → ℕ) (q : Request) (es more other xs ys : List Entry) (said heard : Answer q) → Fed lengths q more said
     → Fed lengths q other heard → (es ++ more) ++ xs ≡ (es ++ other) ++ ys
     → (said ≡ heard) × (more ≡ other)
-same_told lengths Nothing es more other xs ys NoAnswer NoAnswer f g e = (refl, f ∙ sym g)
-same_told lengths Nothing es more other xs ys NoAnswer _ f g e = absurd g
-same_told lengths Nothing es more other xs ys _ heard f g e = absurd f
-same_told lengths (Measure n) es more other xs ys (Measured k) (Measured l) f g e = (ap (λ c. Measured c) (f.1 ∙ sym g.1), f.0 ∙ sym g.0)
-same_told lengths (Measure n) es more other xs ys (Measured k) _ f g e = absurd g
-same_told lengths (Measure n) es more other xs ys _ heard f g e = absurd f
-same_told lengths (Touch n op) es more other xs ys (Reached (reach.Done v)) (Reached (reach.Done w)) f g e =
+same_answer lengths Nothing es more other xs ys said heard f g e = (refl, f ∙ sym g)
+same_answer lengths (Measure n) es more other xs ys k l f g e = (f.1 ∙ sym g.1, f.0 ∙ sym g.0)
+same_answer lengths (Touch n op) es more other xs ys (reach.Done v) (reach.Done w) f g e =
     let joined = ap (λ (l : List Entry). (es ++ l) ++ xs) (sym f.1) ∙ e ∙ ap (λ (l : List Entry). (es ++ l) ++ ys) g.1 in
     let same : v ≡ w = number_is v w (ap (λ (x : Entry). x.given) (next_is es _ _ xs ys joined)) in
-    (ap (λ c. Reached (reach.Done c)) same, f.1 ∙ ap (λ c. entries_added n op (reach.Done c)) same ∙ sym g.1)
-same_told lengths (Touch n op) es more other xs ys (Reached (reach.Done v)) _ f g e = absurd g
-same_told lengths (Touch n op) es more other xs ys _ heard f g e = absurd f
+    (ap (λ c. reach.Done c) same, f.1 ∙ ap (λ c. entries_added n op (reach.Done c)) same ∙ sym g.1)
+same_answer lengths (Touch n op) es more other xs ys (reach.Done v) _ f g e = absurd g
+same_answer lengths (Touch n op) es more other xs ys _ heard f g e = absurd f
 
 same_step : (lengths : ℕ → ℕ) (old new other : MachineState) (es fs gs xs ys : List Entry) → Advanced lengths old es new fs
     → Advanced lengths old es other gs → fs ++ xs ≡ gs ++ ys → (new ≡ other) × (fs ≡ gs)
 same_step lengths old new other es fs gs xs ys p q e =
     let instr : q.instr ≡ p.instr = same_next old q.instr p.instr q.attempts.next p.attempts.next in
-    let fed = subst (λ (i : Instr). Fed lengths (asks i old) q.added.more q.said) instr q.added.fed in
-    let joined = ap (λ (l : List Entry). l ++ xs) (sym p.added.grown) ∙ e ∙ ap (λ (l : List Entry). l ++ ys) q.added.grown in
-    let same = same_told lengths (asks p.instr old) es p.added.more q.added.more xs ys p.said q.said p.added.fed fed joined in (
-      p.becomes ∙ ap (λ (a : MemoryAnswer). (told p.instr old a).machine) same.0 ∙ ap (λ (i : Instr). (told i old q.said).machine) (sym instr) ∙ sym q.becomes,
-      p.added.grown ∙ ap (λ (l : List Entry). es ++ l) same.1 ∙ sym q.added.grown,
+    let d = subst (λ (i : Instr). AdvancedBy lengths old es other gs i) instr q.by in
+    let joined = ap (λ (l : List Entry). l ++ xs) (sym p.by.added.grown) ∙ e ∙ ap (λ (l : List Entry). l ++ ys) d.added.grown in
+    let same = same_answer lengths (asks p.instr old) es p.by.added.more d.added.more xs ys p.by.said d.said p.by.added.fed d.added.fed joined in (
+      p.by.becomes ∙ ap (λ (a : Answer (asks p.instr old)). (row_outcome p.instr old a).machine) same.0 ∙ sym d.becomes,
+      p.by.added.grown ∙ ap (λ (l : List Entry). es ++ l) same.1 ∙ sym d.added.grown,
     )
 
 same_replay : (lengths : ℕ → ℕ) (worn : ℕ → Bool) (k : ℕ) (start new other : MachineState) (es fs xs ys : List Entry) → Replays lengths worn k start es new
@@ -143,9 +139,9 @@ same_replay lengths worn zero start new other es fs xs ys p q e = (p.1 ∙ sym q
 same_replay lengths worn (suc k) start new other es fs xs ys p q e =
     let a = advanced lengths worn p.0 p.1 new es p.3 in
     let b = advanced lengths worn q.0 q.1 other fs q.3 in
-    let one = ap (λ (l : List Entry). l ++ xs) a.added.grown ∙ append_assoc p.1 a.added.more xs in
-    let two = ap (λ (l : List Entry). l ++ ys) b.added.grown ∙ append_assoc q.1 b.added.more ys in
-    let before = same_replay lengths worn k start p.0 q.0 p.1 q.1 (a.added.more ++ xs) (b.added.more ++ ys) p.2 q.2 (sym one ∙ e ∙ two) in
+    let one = ap (λ (l : List Entry). l ++ xs) a.by.added.grown ∙ append_assoc p.1 a.by.added.more xs in
+    let two = ap (λ (l : List Entry). l ++ ys) b.by.added.grown ∙ append_assoc q.1 b.by.added.more ys in
+    let before = same_replay lengths worn k start p.0 q.0 p.1 q.1 (a.by.added.more ++ xs) (b.by.added.more ++ ys) p.2 q.2 (sym one ∙ e ∙ two) in
     let c = subst (λ (m : MachineState). Advanced lengths m p.1 other fs) (sym before.0)
     (subst (λ (l : List Entry). Advanced lengths q.0 l other fs) (sym before.1) b) in
     same_step lengths p.0 new other p.1 es fs xs ys a c e

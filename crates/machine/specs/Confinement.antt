@@ -1,4 +1,4 @@
--- A machine is told of nothing, and writes nothing, but what it was granted.
+-- A machine learns nothing, and writes nothing, but what it was granted.
 use Rattle.std.specs.Prelude.{◌≡◌, ℕ, true, false, List, [], ◌∷◌}
 use Rattle.memory.specs.Objects.{bytes_of}
 use Rattle.memory.specs.MapMemory.{map_memory}

@@ -1,3 +1,4 @@
+pub mod Stops
 pub mod Grants
 pub mod KeptGrants
 pub mod Rights

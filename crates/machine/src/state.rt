@@ -1,6 +1,8 @@
 //! Parts of a machine that others see.
-ghost use Rattle.std.specs.Prelude.{◌≡◌, ◌<◌};
+ghost use Rattle.std.specs.Prelude.{◌≡◌, ◌≢◌, ◌<◌, ◌≤◌, length, IfSome, IfNone};
 ghost use Rattle.machine.specs.Points.{fuel_after};
+ghost use Rattle.machine.specs.Stops.{stop_name, stop_number};
+ghost use Rattle.machine.specs.declared.state.Stop.{Stop};
 
 use isa_table::Size;
 use memory::Op;
@@ -44,6 +46,54 @@ impl Stop {
         match self {
             Stop::Exit(_) => 1,
             _ => 0,
+        }
+    }
+
+    /// Its name, as replies write it.
+    pub fn name(self) -> &'static [u8]
+        ensures name { result.now ≡ stop_name self }
+        ensures short { length result.now ≤ 10 }
+    {
+        match self {
+            Stop::Exit(_) => b"exit",
+            Stop::Outside => b"outside",
+            Stop::Misaligned => b"misaligned",
+            Stop::Depth => b"depth",
+            Stop::Spent => b"spent",
+            Stop::Worn => b"worn",
+            Stop::NotGranted => b"notgranted",
+        }
+    }
+
+    /// Its number, as the library for C has it: from 1 on, since 0 says there that a machine goes on.
+    pub fn number(self) -> u32
+        ensures { result ≡ stop_number self }
+    {
+        match self {
+            Stop::Exit(_) => 1,
+            Stop::Outside => 2,
+            Stop::Misaligned => 3,
+            Stop::Depth => 4,
+            Stop::Spent => 5,
+            Stop::Worn => 6,
+            Stop::NotGranted => 7,
+        }
+    }
+
+    /// The stop of that number. An exit's value isn't in its number, and is 0 here.
+    pub fn numbered(number: u32) -> Option<Self>
+        ensures some { IfSome result (λ stop. stop_number stop ≡ number) }
+        ensures none { IfNone result ((stop : Stop) → stop_number stop ≢ number) }
+    {
+        match number {
+            1 => Some(Stop::Exit(0)),
+            2 => Some(Stop::Outside),
+            3 => Some(Stop::Misaligned),
+            4 => Some(Stop::Depth),
+            5 => Some(Stop::Spent),
+            6 => Some(Stop::Worn),
+            7 => Some(Stop::NotGranted),
+            _ => None,
         }
     }
 }

@@ -36,7 +36,7 @@ seat_walk {M} {S} view stamp loan table way old new before after reply h =
     let t = step_carries true (seat_memory view stamp loan table) seat_acts (seen view stamp) (IsLent loan table before)
     (seat_carries view stamp loan table before)
     old.machine h.machine before after h.answer (record { loan_is = refl; table_is = refl }) refl h.step in (
-      record { goes = h.goes; answer = h.answer; machine = h.machine; step = t.0; told = h.told; changed = h.changed },
+      record { goes = h.goes; answer = h.answer; machine = h.machine; step = t.0; replied = h.replied; changed = h.changed },
       t.1,
     )
 

@@ -34,24 +34,24 @@ lent_step store loan who old new before after a t =
     step_carries true (lent_memory store loan who) (within_memory (who before)) store (IsLent loan who before) (lent_carries store loan who before)
     old new before after a (record { loan_is = refl; who_is = refl }) refl t
 
-lent_walk : {M X : Type 0} (store : M → StoreWithin X) (loan who : M → ℕ) (way : Way) (old new : Debuggee) (before after : M) (told : StepReply)
-    → Walks (lent_memory store loan who) way old before told new after
-    → Walks (within_memory (who before)) way old (store before) told new (store after) × IsLent loan who before after
-lent_walk store loan who way old new before after told h =
+lent_walk : {M X : Type 0} (store : M → StoreWithin X) (loan who : M → ℕ) (way : Way) (old new : Debuggee) (before after : M) (replied : StepReply)
+    → Walks (lent_memory store loan who) way old before replied new after
+    → Walks (within_memory (who before)) way old (store before) replied new (store after) × IsLent loan who before after
+lent_walk store loan who way old new before after replied h =
     let t = lent_step store loan who old.machine h.machine before after h.answer h.step in (
-      record { goes = h.goes; answer = h.answer; machine = h.machine; step = t.0; told = h.told; changed = h.changed },
+      record { goes = h.goes; answer = h.answer; machine = h.machine; step = t.0; replied = h.replied; changed = h.changed },
       t.1,
     )
 
 -- a step over a store that is lent is one over the store
-pub lent_answer : {M X : Type 0} (store : M → StoreWithin X) (loan who : M → ℕ) (way : Way) (old new : Debuggee) (before after : M) (told : StepReply)
-    → AnswersStep (lent_memory store loan who) way old before told new after
-    → AnswersStep (within_memory (who before)) way old (store before) told new (store after) × IsLent loan who before after
+pub lent_answer : {M X : Type 0} (store : M → StoreWithin X) (loan who : M → ℕ) (way : Way) (old new : Debuggee) (before after : M) (replied : StepReply)
+    → AnswersStep (lent_memory store loan who) way old before replied new after
+    → AnswersStep (within_memory (who before)) way old (store before) replied new (store after) × IsLent loan who before after
 lent_answer store loan who way old new before after (step_reply.Paused slot) h = (
   record { held = h.held; slot_is = h.slot_is; changed = h.changed; same = ap store h.same },
   record { loan_is = ap loan h.same; who_is = ap who h.same },
 )
-lent_answer store loan who way old new before after told h = lent_walk store loan who way old new before after told h
+lent_answer store loan who way old new before after replied h = lent_walk store loan who way old new before after replied h
 
 -- ---- without the far store
 
@@ -62,16 +62,16 @@ within_carries who = record {
   measured = λ before n. refl;
 }
 
-within_walk : {X : Type 0} (who : ℕ) (way : Way) (old new : Debuggee) (before after : StoreWithin X) (told : StepReply)
-    → Walks (within_memory who) way old before told new after → Walks (store_memory who) way old before.state told new after.state
-within_walk {X} who way old new before after told h =
+within_walk : {X : Type 0} (who : ℕ) (way : Way) (old new : Debuggee) (before after : StoreWithin X) (replied : StepReply)
+    → Walks (within_memory who) way old before replied new after → Walks (store_memory who) way old before.state replied new after.state
+within_walk {X} who way old new before after replied h =
     let t = step_carries true (within_memory who) (store_memory who) (λ (s : StoreWithin X). s.state) (λ _. Unit {0}) (within_carries who) old.machine
     h.machine before after h.answer tt refl h.step in
-    record { goes = h.goes; answer = h.answer; machine = h.machine; step = t.0; told = h.told; changed = h.changed }
+    record { goes = h.goes; answer = h.answer; machine = h.machine; step = t.0; replied = h.replied; changed = h.changed }
 
 -- a step over a store is one over its state
-pub within_answer : {X : Type 0} (who : ℕ) (way : Way) (old new : Debuggee) (before after : StoreWithin X) (told : StepReply)
-    → AnswersStep (within_memory who) way old before told new after → AnswersStep (store_memory who) way old before.state told new after.state
+pub within_answer : {X : Type 0} (who : ℕ) (way : Way) (old new : Debuggee) (before after : StoreWithin X) (replied : StepReply)
+    → AnswersStep (within_memory who) way old before replied new after → AnswersStep (store_memory who) way old before.state replied new after.state
 within_answer {X} who way old new before after (step_reply.Paused slot) h =
     record { held = h.held; slot_is = h.slot_is; changed = h.changed; same = ap (λ (s : StoreWithin X). s.state) h.same }
-within_answer who way old new before after told h = within_walk who way old new before after told h
+within_answer who way old new before after replied h = within_walk who way old new before after replied h

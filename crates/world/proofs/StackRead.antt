@@ -20,11 +20,11 @@ use Rattle.world.proofs.Numbered.{with_same}
 abbrev pub StackAnswers : List Debuggee → ℕ → ℕ → ℕ → Reply → Type 0
 StackAnswers machines m offset size reply = (s : StoreState) → AnswersMachine (store_memory m) machines s m (Show (Stack offset size)) reply machines s
 
-shown : (machines : List Debuggee) (m offset size : ℕ) (d : Debuggee) (told : ShowReply) → machine_at machines m ≡ Some d
-    → ShowsBytes d.machine.stack offset size told
-    → StackAnswers machines m offset size (Shown m told)
-shown machines m offset size d told found shows =
-    λ s. inr (record { debuggee = d; became = d; found = found; answers = (told, refl, shows, refl, refl); changed = sym (with_same machines m d found) })
+shown : (machines : List Debuggee) (m offset size : ℕ) (d : Debuggee) (replied : ShowReply) → machine_at machines m ≡ Some d
+    → ShowsBytes d.machine.stack offset size replied
+    → StackAnswers machines m offset size (Shown m replied)
+shown machines m offset size d replied found shows =
+    λ s. inr (record { debuggee = d; became = d; found = found; answers = (replied, refl, shows, refl, refl); changed = sym (with_same machines m d found) })
 
 at : (machines : List Debuggee) (m k : ℕ) (d : Debuggee) → m ≡ suc k → slice_get machines k ≡ Some d → machine_at machines m ≡ Some d
 at machines m k d e found = subst (λ (n : ℕ). machine_at machines n ≡ Some d) (sym e) found

@@ -96,27 +96,27 @@ hit_ran : (b : Bool) (slot : ℕ) → unhit (cond b (step_reply.Hit slot) (step_
 hit_ran true slot = refl
 hit_ran false slot = refl
 
-told_undebugged : (a : Stepped) (slot : ℕ) (d : DebugState) → unhit (reply_after a slot d) ≡ reply_after a slot debug_start
-told_undebugged (stepped.Ran w) slot d = hit_ran (hits w d) slot ∙ sym (ap (λ b. cond b (step_reply.Hit slot) (step_reply.Ran slot)) (no_hit w))
-told_undebugged (stepped.Waiting n) slot d = refl
-told_undebugged (stepped.Stopped s) slot d = refl
+reply_undebugged : (a : Stepped) (slot : ℕ) (d : DebugState) → unhit (reply_after a slot d) ≡ reply_after a slot debug_start
+reply_undebugged (stepped.Ran w) slot d = hit_ran (hits w d) slot ∙ sym (ap (λ b. cond b (step_reply.Hit slot) (step_reply.Ran slot)) (no_hit w))
+reply_undebugged (stepped.Waiting n) slot d = refl
+reply_undebugged (stepped.Stopped s) slot d = refl
 
 -- a step by any way is one by `step`
-walk_undebugged : {S : Type 0} (memory : Memories S) (w : Way) (old new : Debuggee) (before after : S) (told : StepReply)
-    → Walks memory w old before told new after
-    → Walks memory way.Step (undebugged_machine old) before (unhit told) (undebugged_machine new) after
-walk_undebugged memory w old new before after told h = record {
+walk_undebugged : {S : Type 0} (memory : Memories S) (w : Way) (old new : Debuggee) (before after : S) (replied : StepReply)
+    → Walks memory w old before replied new after
+    → Walks memory way.Step (undebugged_machine old) before (unhit replied) (undebugged_machine new) after
+walk_undebugged memory w old new before after replied h = record {
   goes = never_held old.machine.stop old.machine.slot;
   answer = h.answer;
   machine = h.machine;
   step = h.step;
-  told = ap unhit h.told ∙ told_undebugged h.answer h.machine.slot old.debugger;
+  replied = ap unhit h.replied ∙ reply_undebugged h.answer h.machine.slot old.debugger;
   changed = ap undebugged_machine h.changed ∙ ap (λ (d : DebugState). debuggee h.machine d) (sym (starts_stay h.answer));
 }
 
-step_undebugged : {S : Type 0} (memory : Memories S) (w : Way) (m : ℕ) (old new : Debuggee) (before after : S) (told : StepReply)
-    → is_pause (reply.Stepped m told) ≡ false
-    → AnswersStep memory w old before told new after → AnswersStep memory way.Step (undebugged_machine old) before (unhit told) (undebugged_machine new) after
+step_undebugged : {S : Type 0} (memory : Memories S) (w : Way) (m : ℕ) (old new : Debuggee) (before after : S) (replied : StepReply)
+    → is_pause (reply.Stepped m replied) ≡ false
+    → AnswersStep memory w old before replied new after → AnswersStep memory way.Step (undebugged_machine old) before (unhit replied) (undebugged_machine new) after
 step_undebugged memory w m old new before after (step_reply.Paused slot) e h = absurd (cc)
 step_undebugged memory w m old new before after (step_reply.Ran slot) e h = walk_undebugged memory w old new before after (step_reply.Ran slot) h
 step_undebugged memory w m old new before after (step_reply.Hit slot) e h = walk_undebugged memory w old new before after (step_reply.Hit slot) h
@@ -124,9 +124,9 @@ step_undebugged memory w m old new before after (step_reply.Waiting n) e h = wal
 step_undebugged memory w m old new before after (step_reply.Stopped s) e h = walk_undebugged memory w old new before after (step_reply.Stopped s) h
 
 -- a pause is not seen
-step_unseen : {S : Type 0} (memory : Memories S) (w : Way) (m : ℕ) (old new : Debuggee) (before after : S) (told : StepReply)
-    → is_pause (reply.Stepped m told) ≡ true
-    → AnswersStep memory w old before told new after → (undebugged_machine new ≡ undebugged_machine old) × (after ≡ before)
+step_unseen : {S : Type 0} (memory : Memories S) (w : Way) (m : ℕ) (old new : Debuggee) (before after : S) (replied : StepReply)
+    → is_pause (reply.Stepped m replied) ≡ true
+    → AnswersStep memory w old before replied new after → (undebugged_machine new ≡ undebugged_machine old) × (after ≡ before)
 step_unseen memory w m old new before after (step_reply.Paused slot) e h = (ap undebugged_machine h.changed, h.same)
 step_unseen memory w m old new before after _ e h = absurd (cc)
 
@@ -143,17 +143,17 @@ shown_undebugged d shown e =
     ap (λ (s : Shown). record s { state = unpaused s.state }) e
     ∙ ap (λ (s : State). record (shown_of d.machine debug_start) { state = s }) (unpaused_state d.machine.stop d.debugger.paused)
 
-bytes_undebugged : (bytes : List ℕ) (offset size : ℕ) (told : ShowReply) → ShowsBytes bytes offset size told → ShowsBytes bytes offset size (unshown told)
-bytes_undebugged bytes offset size told h = grind arith
+bytes_undebugged : (bytes : List ℕ) (offset size : ℕ) (replied : ShowReply) → ShowsBytes bytes offset size replied → ShowsBytes bytes offset size (unshown replied)
+bytes_undebugged bytes offset size replied h = grind arith
 
-line_undebugged : (code : List ℕ) (slot : ℕ) (told : ShowReply) → ShowsLine code slot told → ShowsLine code slot (unshown told)
-line_undebugged code slot told h = grind arith
+line_undebugged : (code : List ℕ) (slot : ℕ) (replied : ShowReply) → ShowsLine code slot replied → ShowsLine code slot (unshown replied)
+line_undebugged code slot replied h = grind arith
 
-show_undebugged : (c : ShowCommand) (d : Debuggee) (told : ShowReply) → Shows c d told → Shows c (undebugged_machine d) (unshown told)
+show_undebugged : (c : ShowCommand) (d : Debuggee) (replied : ShowReply) → Shows c d replied → Shows c (undebugged_machine d) (unshown replied)
 show_undebugged Regs d (show_reply.Registers shown) h = shown_undebugged d shown h
 show_undebugged Out d (show_reply.Emitted values) h = h
-show_undebugged (Stack offset size) d told h = bytes_undebugged d.machine.stack offset size told h
-show_undebugged (Line slot) d told h = line_undebugged d.machine.code slot told h
+show_undebugged (Stack offset size) d replied h = bytes_undebugged d.machine.stack offset size replied h
+show_undebugged (Line slot) d replied h = line_undebugged d.machine.code slot replied h
 show_undebugged _ d _ h = absurd h
 
 -- ---- commands
@@ -181,7 +181,7 @@ pub machine_undebugged : {S : Type 0} (memory : Memories S) (m : ℕ) (c : Machi
     → AnswersMachine memory old before m c r new after
     → AnswersMachine memory (undebugged_machines old) before m (undebugged_work c) (undebugged_reply r) (undebugged_machines new) after
 machine_undebugged memory m c old new before after r e (inl h) =
-    inl (record { none = missing_undebugged old m h.none; told = ap undebugged_reply h.told; unchanged = ap undebugged_machines h.unchanged; same = h.same })
+    inl (record { none = missing_undebugged old m h.none; replied = ap undebugged_reply h.replied; unchanged = ap undebugged_machines h.unchanged; same = h.same })
 machine_undebugged memory m c old new before after r e (inr h) = inr (record {
   debuggee = undebugged_machine h.debuggee;
   became = undebugged_machine h.became;

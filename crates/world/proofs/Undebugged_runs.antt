@@ -52,7 +52,7 @@ move_kept : (moves : StoreState → ℕ → Moved → StoreState → Type 0) (re
 move_kept moves reply_with old new n r e h = record {
   moved = h.moved;
   move = h.move;
-  told = ap undebugged_reply h.told ∙ e h.moved;
+  replied = ap undebugged_reply h.replied ∙ e h.moved;
   changed = ap undebugged h.changed;
 }
 
@@ -97,10 +97,10 @@ one_kept old new (Machine m (Debug c)) r e h = absurd (cc)
 
 -- no command on an object is answered that a machine is paused
 object_unpaused : {P : Type 0} (old new : WorldState) (n : ℕ) (c : ObjectCommand) (r : Reply) → AnswersObject old n c r new → is_pause r ≡ true → P
-object_unpaused old new n Free r h e = let f = subst (λ (x : Reply). is_pause x ≡ true) h.told e in absurd (cc)
-object_unpaused old new n (Move m) r h e = let f = subst (λ (x : Reply). is_pause x ≡ true) h.told e in absurd (cc)
-object_unpaused old new n (Put offset bytes) (reply.Stepped k told) h e = absurd h
-object_unpaused old new n (Get offset size) (reply.Stepped k told) h e = absurd h.0
+object_unpaused old new n Free r h e = let f = subst (λ (x : Reply). is_pause x ≡ true) h.replied e in absurd (cc)
+object_unpaused old new n (Move m) r h e = let f = subst (λ (x : Reply). is_pause x ≡ true) h.replied e in absurd (cc)
+object_unpaused old new n (Put offset bytes) (reply.Stepped k replied) h e = absurd h
+object_unpaused old new n (Get offset size) (reply.Stepped k replied) h e = absurd h.0
 object_unpaused old new n _ _ h e = absurd (cc)
 
 -- what is erased: the debugging commands, and pauses
@@ -110,8 +110,8 @@ one_erased old new (Machine m c) r e h =
     let k = machine_unseen (store_memory m) m c old.machines new.machines old.store new.store r e h in
     ap (λ (x : List Debuggee). record { machines = x; store = new.store }) k.0
     ∙ ap (λ (s : StoreState). record { machines = undebugged_machines old.machines; store = s }) k.1
-one_erased old new (Make size) (reply.Stepped k told) e h = absurd h
-one_erased old new (Ship start code) (reply.Stepped k told) e h = absurd h.0
+one_erased old new (Make size) (reply.Stepped k replied) e h = absurd h
+one_erased old new (Ship start code) (reply.Stepped k replied) e h = absurd h.0
 one_erased old new _ _ e h = absurd (cc)
 
 -- ---- a run
@@ -119,8 +119,8 @@ one_erased old new _ _ e h = absurd (cc)
 pub debugging_changes_nothing : DebuggingChangesNothing
 debugging_changes_nothing old new [] [] h = ap undebugged h
 debugging_changes_nothing old new (c ∷ cs) (r ∷ rs) h =
-    kept_first (λ (s : WorldState) (left : List Event) (told : List Reply).
-    Runs Answers s (map undebugged_command left) (map undebugged_reply told) (undebugged new)) (is_undebugged c r)
+    kept_first (λ (s : WorldState) (left : List Event) (replied : List Reply).
+    Runs Answers s (map undebugged_command left) (map undebugged_reply replied) (undebugged new)) (is_undebugged c r)
     (undebugged old) (undebugged h.0) c (commands_kept is_undebugged cs rs) r (replies_kept is_undebugged cs rs)
     (λ e rest. (undebugged h.0, one_kept old h.0 c r e h.1, rest)) (λ e. one_erased old h.0 c r e h.1) (debugging_changes_nothing h.0 new cs rs h.2)
 debugging_changes_nothing old new [] (r ∷ rs) h = absurd h

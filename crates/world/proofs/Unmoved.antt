@@ -70,29 +70,29 @@ abbrev debuggee : MachineState → DebugState → Debuggee
 debuggee m d = record { machine = m; debugger = d }
 
 -- what is not answered that it waits goes on
-told_goes : (m : ℕ) (a : Stepped) (slot : ℕ) (d : DebugState) → is_absence (reply.Stepped m (reply_after a slot d)) ≡ false → goes a ≡ true
-told_goes m (stepped.Ran w) slot d e = refl
-told_goes m (stepped.Waiting n) slot d e = absurd (cc)
-told_goes m (stepped.Stopped s) slot d e = refl
+reply_goes : (m : ℕ) (a : Stepped) (slot : ℕ) (d : DebugState) → is_absence (reply.Stepped m (reply_after a slot d)) ≡ false → goes a ≡ true
+reply_goes m (stepped.Ran w) slot d e = refl
+reply_goes m (stepped.Waiting n) slot d e = absurd (cc)
+reply_goes m (stepped.Stopped s) slot d e = refl
 
-walk_plain : (m : ℕ) (way : Way) (old new : Debuggee) (before after : StoreState) (told : StepReply) → is_absence (reply.Stepped m told) ≡ false
-    → Walks (store_memory m) way old before told new after → Walks map_memory way old before.objects told new after.objects
-walk_plain m way old new before after told e h = record {
+walk_plain : (m : ℕ) (way : Way) (old new : Debuggee) (before after : StoreState) (replied : StepReply) → is_absence (reply.Stepped m replied) ≡ false
+    → Walks (store_memory m) way old before replied new after → Walks map_memory way old before.objects replied new after.objects
+walk_plain m way old new before after replied e h = record {
   goes = h.goes;
   answer = h.answer;
   machine = h.machine;
   step = plain_step m old.machine h.machine before after h.answer
-      (told_goes m h.answer h.machine.slot old.debugger (subst (λ (x : StepReply). is_absence (reply.Stepped m x) ≡ false) h.told e)) h.step;
-  told = h.told;
+      (reply_goes m h.answer h.machine.slot old.debugger (subst (λ (x : StepReply). is_absence (reply.Stepped m x) ≡ false) h.replied e)) h.step;
+  replied = h.replied;
   changed = h.changed;
 }
 
 -- by any way, where it isn't answered that it waits
-step_plain : (m : ℕ) (way : Way) (old new : Debuggee) (before after : StoreState) (told : StepReply) → is_absence (reply.Stepped m told) ≡ false
-    → AnswersStep (store_memory m) way old before told new after → AnswersStep map_memory way old before.objects told new after.objects
+step_plain : (m : ℕ) (way : Way) (old new : Debuggee) (before after : StoreState) (replied : StepReply) → is_absence (reply.Stepped m replied) ≡ false
+    → AnswersStep (store_memory m) way old before replied new after → AnswersStep map_memory way old before.objects replied new after.objects
 step_plain m way old new before after (step_reply.Paused slot) e h =
     record { held = h.held; slot_is = h.slot_is; changed = h.changed; same = ap (λ (s : StoreState). s.objects) h.same }
-step_plain m way old new before after told e h = walk_plain m way old new before after told e h
+step_plain m way old new before after replied e h = walk_plain m way old new before after replied e h
 
 command_plain : (m : ℕ) (c : MachineCommand) (old new : Debuggee) (before after : StoreState) (r : Reply) → is_absence r ≡ false
     → AnswersCommand (store_memory m) old before m c r new after → AnswersCommand map_memory old before.objects m c r new after.objects
@@ -104,7 +104,7 @@ command_plain m (Debug c) old new before after r e h = (h.0, h.1, h.2, ap (λ (s
 machine_plain : (m : ℕ) (c : MachineCommand) (old new : List Debuggee) (before after : StoreState) (r : Reply) → is_absence r ≡ false
     → AnswersMachine (store_memory m) old before m c r new after → AnswersMachine map_memory old before.objects m c r new after.objects
 machine_plain m c old new before after r e (inl h) =
-    inl (record { none = h.none; told = h.told; unchanged = h.unchanged; same = ap (λ (s : StoreState). s.objects) h.same })
+    inl (record { none = h.none; replied = h.replied; unchanged = h.unchanged; same = ap (λ (s : StoreState). s.objects) h.same })
 machine_plain m c old new before after r e (inr h) = inr (record {
   debuggee = h.debuggee;
   became = h.became;
@@ -120,19 +120,19 @@ waited_away who before after n op reach.Away w h = h.2
 waited_away who before after n op reach.Busy w h = absurd h
 waited_away who before after n op _ w h = absurd w
 
-told_ran : (b : Bool) (n slot : ℕ) → step_reply.Waiting n ≡ cond b (step_reply.Hit slot) (step_reply.Ran slot) → ⊥
-told_ran true n slot e = cc
-told_ran false n slot e = cc
+reply_ran : (b : Bool) (n slot : ℕ) → step_reply.Waiting n ≡ cond b (step_reply.Hit slot) (step_reply.Ran slot) → ⊥
+reply_ran true n slot e = cc
+reply_ran false n slot e = cc
 
-told_waits : (n : ℕ) (a : Stepped) (slot : ℕ) (d : DebugState) → step_reply.Waiting n ≡ reply_after a slot d → a ≡ stepped.Waiting n
-told_waits n (stepped.Ran w) slot d e = absurd (told_ran (hits w d) n slot e)
-told_waits n (stepped.Waiting k) slot d e = cc
-told_waits n (stepped.Stopped s) slot d e = absurd (cc)
+reply_waits : (n : ℕ) (a : Stepped) (slot : ℕ) (d : DebugState) → step_reply.Waiting n ≡ reply_after a slot d → a ≡ stepped.Waiting n
+reply_waits n (stepped.Ran w) slot d e = absurd (reply_ran (hits w d) n slot e)
+reply_waits n (stepped.Waiting k) slot d e = cc
+reply_waits n (stepped.Stopped s) slot d e = absurd (cc)
 
 waited : (m n : ℕ) (way : Way) (old new : Debuggee) (before after : StoreState) → Walks (store_memory m) way old before (step_reply.Waiting n) new after
     → (new ≡ old) × (after ≡ before)
 waited m n way old new before after h =
-    let k = told_waits n h.answer h.machine.slot old.debugger h.told in
+    let k = reply_waits n h.answer h.machine.slot old.debugger h.replied in
     let w = waits_in_place (store_memory m) old.machine h.machine before after n
     (subst (λ (a : Stepped). TableStep (store_memory m) old.machine before a h.machine after) k h.step) in
     let d : pausing.debugged way h.answer old.debugger ≡ old.debugger = ap (λ (a : Stepped). pausing.debugged way a old.debugger) k in (
@@ -142,8 +142,8 @@ waited m n way old new before after h =
       waited_away m before after n w.1.1 w.1.2 w.1.6 w.1.5,
     )
 
-step_erased : (m : ℕ) (way : Way) (old new : Debuggee) (before after : StoreState) (told : StepReply) → is_absence (reply.Stepped m told) ≡ true
-    → AnswersStep (store_memory m) way old before told new after → (new ≡ old) × (after ≡ before)
+step_erased : (m : ℕ) (way : Way) (old new : Debuggee) (before after : StoreState) (replied : StepReply) → is_absence (reply.Stepped m replied) ≡ true
+    → AnswersStep (store_memory m) way old before replied new after → (new ≡ old) × (after ≡ before)
 step_erased m way old new before after (step_reply.Waiting n) e h = waited m n way old new before after h
 step_erased m way old new before after _ e h = absurd (cc)
 
@@ -195,7 +195,7 @@ make_plain old new size _ h = absurd h
 object_plain : (old new : WorldState) (n : ℕ) (c : ObjectCommand) (r : Reply) → is_unmoved (Object n c) r ≡ true → AnswersObject old n c r new
     → ObjectPlain old.store.objects n c r new.store.objects × (new.machines ≡ old.machines)
 object_plain old new n Free r e h = (
-  subst (λ (x : Reply). FreesPlain old.store.objects n x new.store.objects) (sym h.told) (frees_plain old.store new.store n h.moved h.move),
+  subst (λ (x : Reply). FreesPlain old.store.objects n x new.store.objects) (sym h.replied) (frees_plain old.store new.store n h.moved h.move),
   ap machines_of h.changed,
 )
 object_plain old new n (Put offset bytes) reply.Outside e h = ((h.0.0, ap (λ (s : StoreState). s.objects) h.0.1), ap machines_of h.1)
@@ -219,12 +219,12 @@ object_erased : (old new : WorldState) (n : ℕ) (c : ObjectCommand) (r : Reply)
     → AnswersObject old n c r new → plain_of new ≡ plain_of old
 object_erased old new n (Move m) r e h = move_erased (Moves m) (moves_stay m) (reply.Moved n m) old new n r h
 object_erased old new n Free r e h =
-    let f = subst (λ (x : Reply). is_absence x ≡ true) h.told (second (is_absence r) e) in absurd (cc)
+    let f = subst (λ (x : Reply). is_absence x ≡ true) h.replied (second (is_absence r) e) in absurd (cc)
 object_erased old new n (Put offset bytes) (reply.Away k) e h =
     ap plain_of h.1.1 ∙ ap (λ (s : StoreState). record { machines = old.machines; objects = s.objects }) h.1.0.2
 object_erased old new n (Get offset size) (reply.Away k) e h = ap plain_of h.1
-object_erased old new n (Put offset bytes) (reply.Stepped k told) e h = absurd h
-object_erased old new n (Get offset size) (reply.Stepped k told) e h = absurd h.0
+object_erased old new n (Put offset bytes) (reply.Stepped k replied) e h = absurd h
+object_erased old new n (Get offset size) (reply.Stepped k replied) e h = absurd h.0
 object_erased old new n _ _ e h = absurd (cc)
 
 -- what is erased: the moves, what waits, and what is answered that the object is away
@@ -234,9 +234,9 @@ one_erased old new (Machine m c) r e h =
     let k = machine_erased m c old.machines new.machines old.store new.store r (second (is_absence r) e) h in
     ap (λ (x : List Debuggee). record { machines = x; objects = new.store.objects }) k.0
     ∙ ap (λ (s : StoreState). record { machines = old.machines; objects = s.objects }) k.1
-one_erased old new (Make size) (reply.Stepped k told) e h = absurd h
+one_erased old new (Make size) (reply.Stepped k replied) e h = absurd h
 one_erased old new (Make size) (reply.Away k) e h = absurd h
-one_erased old new (Ship start code) (reply.Stepped k told) e h = absurd h.0
+one_erased old new (Ship start code) (reply.Stepped k replied) e h = absurd h.0
 one_erased old new (Ship start code) (reply.Away k) e h = absurd h.0
 one_erased old new _ _ e h = absurd (cc)
 
@@ -245,7 +245,7 @@ one_erased old new _ _ e h = absurd (cc)
 pub moving_changes_nothing : MovingChangesNothing
 moving_changes_nothing old new [] [] h = ap plain_of h
 moving_changes_nothing old new (c ∷ cs) (r ∷ rs) h =
-    kept_first (λ (s : PlainState) (left : List Event) (told : List Reply). Runs PlainAnswers s left told (plain_of new)) (is_unmoved c r) (plain_of old)
+    kept_first (λ (s : PlainState) (left : List Event) (replied : List Reply). Runs PlainAnswers s left replied (plain_of new)) (is_unmoved c r) (plain_of old)
     (plain_of h.0) c (unmoved_commands cs rs) r (unmoved_replies cs rs)
     (λ e rest. (plain_of h.0, one_kept old h.0 c r e h.1, rest)) (λ e. one_erased old h.0 c r e h.1) (moving_changes_nothing h.0 new cs rs h.2)
 moving_changes_nothing old new [] (r ∷ rs) h = absurd h

@@ -66,7 +66,7 @@ pub record AnswersMove (moves : StoreState → ℕ → Moved → StoreState
     → Type 0) (reply_with : Moved → Reply) (old : WorldState) (n : ℕ) (reply : Reply) (new : WorldState) : Type 0 where
   pub moved : Moved
   pub move : moves old.store n moved new.store
-  pub told : reply ≡ reply_with moved
+  pub replied : reply ≡ reply_with moved
   pub changed : new ≡ record old { store = new.store }
 
 -- ---- machines

@@ -31,7 +31,7 @@ AsksToPut old n _ new = AsksNothing old new
 pub record AsksMove {X : Type 0} (asks : StoreWithin X → ℕ → Moved → StoreWithin X
     → Type 0) (reply_with : Moved → Reply) (old : StoreWithin X) (n : ℕ) (reply : Reply) (new : StoreWithin X) : Type 0 where
   pub moved : Moved
-  pub told : reply ≡ reply_with moved
+  pub replied : reply ≡ reply_with moved
   pub asked : asks old n moved new
 
 -- a command on object n

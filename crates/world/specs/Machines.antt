@@ -20,7 +20,7 @@ use Rattle.world.specs.WorldState.{machine_at, with_machine}
 
 -- the reply to a step of machine m, if there is one
 abbrev pub reply_of : ℕ → Option StepReply → Reply
-reply_of m (Some told) = answer.Stepped m told
+reply_of m (Some replied) = answer.Stepped m replied
 reply_of m None = answer.Missing
 
 -- the reply to a reading of the stack of machine m that was refused
@@ -32,17 +32,17 @@ refused_stack m stack_error.Outside = answer.Shown m show_reply.Outside
 
 -- what machine m, which is there, answers to a command over the memory
 abbrev pub AnswersCommand : {S : Type 0} → Memories S → Debuggee → S → ℕ → MachineCommand → Reply → Debuggee → S → Type 0
-AnswersCommand memory old before m (Step way) reply new after = (told : StepReply) × (reply ≡ answer.Stepped m told)
-    × AnswersStep memory way old before told new after
-AnswersCommand memory old before m (Show command) reply new after = (told : ShowReply) × (reply ≡ answer.Shown m told) × Shows command old told
+AnswersCommand memory old before m (Step way) reply new after = (replied : StepReply) × (reply ≡ answer.Stepped m replied)
+    × AnswersStep memory way old before replied new after
+AnswersCommand memory old before m (Show command) reply new after = (replied : ShowReply) × (reply ≡ answer.Shown m replied) × Shows command old replied
     × (new ≡ old) × (after ≡ before)
-AnswersCommand memory old before m (Debug command) reply new after = (told : Debugged) × (reply ≡ answer.Debugged told)
-    × DebugsMachine command old told new × (after ≡ before)
+AnswersCommand memory old before m (Debug command) reply new after = (replied : Debugged) × (reply ≡ answer.Debugged replied)
+    × DebugsMachine command old replied new × (after ≡ before)
 
 -- There is no machine m: nothing changes.
 pub record Misses {S : Type 0} (old : List Debuggee) (before : S) (m : ℕ) (reply : Reply) (new : List Debuggee) (after : S) : Type 0 where
   pub none : machine_at old m ≡ None
-  pub told : reply ≡ answer.Missing
+  pub replied : reply ≡ answer.Missing
   pub unchanged : new ≡ old
   pub same : after ≡ before
 

@@ -56,17 +56,17 @@ unpaused s = s
 -- a hit is a step that ran
 abbrev pub unhit : StepReply → StepReply
 unhit (Hit slot) = Ran slot
-unhit told = told
+unhit replied = replied
 
 -- no machine shows that it is paused
 abbrev pub unshown : ShowReply → ShowReply
 unshown (Registers shown) = Registers (record shown { state = unpaused shown.state })
-unshown told = told
+unshown replied = replied
 
 -- the reply where nobody debugs
 abbrev pub undebugged_reply : Reply → Reply
-undebugged_reply (Stepped m told) = Stepped m (unhit told)
-undebugged_reply (Shown m told) = Shown m (unshown told)
+undebugged_reply (Stepped m replied) = Stepped m (unhit replied)
+undebugged_reply (Shown m replied) = Shown m (unshown replied)
 undebugged_reply r = r
 
 -- a run without the debugging commands, and without what was not done since a machine was paused

@@ -27,7 +27,7 @@ pub record Steps {S : Type 0} (memory : Memories S) (way : Way) (old : List Debu
   pub answer : Stepped
   pub machine : MachineState
   pub step : TableStep memory debuggee.machine before answer machine after
-  pub told : reply ≡ replies.Stepped m (reply_after answer machine.slot debuggee.debugger)
+  pub replied : reply ≡ replies.Stepped m (reply_after answer machine.slot debuggee.debugger)
   pub changed : new ≡ with_machine old m (record { machine = machine; debugger = debugged way answer debuggee.debugger })
 
 -- the machine is paused
@@ -35,7 +35,7 @@ pub record Halts {S : Type 0} (way : Way) (old : List Debuggee) (before : S) (m 
   pub debuggee : Debuggee
   pub found : machine_at old m ≡ Some debuggee
   pub slot : ℕ
-  pub told : reply ≡ replies.Stepped m (step_reply.Paused slot)
+  pub replied : reply ≡ replies.Stepped m (step_reply.Paused slot)
   pub held : holds_back way debuggee ≡ true
   pub slot_is : slot ≡ debuggee.machine.slot
   pub changed : new ≡ with_machine old m (record debuggee { debugger = with_pause slot debuggee.debugger })
@@ -52,27 +52,27 @@ pub data StepAnswer {S : Type 0} (memory : Memories S) (way : Way) (old : List D
   TableRow : Steps memory way old before m r new after → StepAnswer memory way old before m r new after
 
 found_step : {S : Type 0} (memory : Memories S) (way : Way) (old : List Debuggee) (before : S) (m : ℕ) (r : Reply) (new : List Debuggee) (after : S)
-    (d e : Debuggee) (told : StepReply)
-    → machine_at old m ≡ Some d → new ≡ with_machine old m e → r ≡ replies.Stepped m told → AnswersStep memory way d before told e after
+    (d e : Debuggee) (replied : StepReply)
+    → machine_at old m ≡ Some d → new ≡ with_machine old m e → r ≡ replies.Stepped m replied → AnswersStep memory way d before replied e after
     → StepAnswer memory way old before m r new after
 found_step memory way old before m r new after d e (step_reply.Paused slot) f c t h = Pause (record {
   debuggee = d;
   found = f;
   slot = slot;
-  told = t;
+  replied = t;
   held = h.held;
   slot_is = h.slot_is;
   changed = c ∙ ap (λ (x : Debuggee). with_machine old m x) h.changed;
   same = h.same;
 })
-found_step memory way old before m r new after d e told f c t h = TableRow (record {
+found_step memory way old before m r new after d e replied f c t h = TableRow (record {
   debuggee = d;
   found = f;
   goes = h.goes;
   answer = h.answer;
   machine = h.machine;
   step = h.step;
-  told = t ∙ ap (replies.Stepped m) h.told;
+  replied = t ∙ ap (replies.Stepped m) h.replied;
   changed = c ∙ ap (λ (x : Debuggee). with_machine old m x) h.changed;
 })
 
@@ -85,26 +85,26 @@ parted memory way old before m r new after (inr h) =
 -- ---- and back
 
 never_paused : (slot k : ℕ) (a : Stepped) (d : DebugState) → step_reply.Paused slot ≡ reply_after a k d → ⊥
-never_paused slot k a d = step_replies (λ (told : StepReply). step_reply.Paused slot ≡ told → ⊥) a k d (λ i e. cc) (λ i e. cc) (λ i e. cc) (λ i e. cc)
+never_paused slot k a d = step_replies (λ (replied : StepReply). step_reply.Paused slot ≡ replied → ⊥) a k d (λ i e. cc) (λ i e. cc) (λ i e. cc) (λ i e. cc)
 
 -- a step of the table is never answered that the machine is paused
-walked : {S : Type 0} (memory : Memories S) (way : Way) (old new : Debuggee) (before after : S) (told : StepReply)
-    → Walks memory way old before told new after → AnswersStep memory way old before told new after
-walked memory way old new before after (step_reply.Paused slot) h = absurd (never_paused slot h.machine.slot h.answer old.debugger h.told)
-walked memory way old new before after told h = h
+walked : {S : Type 0} (memory : Memories S) (way : Way) (old new : Debuggee) (before after : S) (replied : StepReply)
+    → Walks memory way old before replied new after → AnswersStep memory way old before replied new after
+walked memory way old new before after (step_reply.Paused slot) h = absurd (never_paused slot h.machine.slot h.answer old.debugger h.replied)
+walked memory way old new before after replied h = h
 
 pub stepped_so : {S : Type 0} (memory : Memories S) (way : Way) (old : List Debuggee) (before : S) (m : ℕ) (r : Reply) (new : List Debuggee) (after : S)
     → Steps memory way old before m r new after → StepsAt memory way old before m r new after
 stepped_so memory way old before m r new after h =
-    let told = reply_after h.answer h.machine.slot h.debuggee.debugger in
+    let replied = reply_after h.answer h.machine.slot h.debuggee.debugger in
     let became : Debuggee = record { machine = h.machine; debugger = debugged way h.answer h.debuggee.debugger } in
-    let walk : Walks memory way h.debuggee before told became after =
-    record { goes = h.goes; answer = h.answer; machine = h.machine; step = h.step; told = refl; changed = refl } in
+    let walk : Walks memory way h.debuggee before replied became after =
+    record { goes = h.goes; answer = h.answer; machine = h.machine; step = h.step; replied = refl; changed = refl } in
     inr (record {
       debuggee = h.debuggee;
       became = became;
       found = h.found;
-      answers = (told, h.told, walked memory way h.debuggee became before after told walk);
+      answers = (replied, h.replied, walked memory way h.debuggee became before after replied walk);
       changed = h.changed;
     })
 
@@ -114,6 +114,6 @@ halting memory way old before m r new after h = inr (record {
   debuggee = h.debuggee;
   became = record h.debuggee { debugger = with_pause h.slot h.debuggee.debugger };
   found = h.found;
-  answers = (step_reply.Paused h.slot, h.told, record { held = h.held; slot_is = h.slot_is; changed = refl; same = h.same });
+  answers = (step_reply.Paused h.slot, h.replied, record { held = h.held; slot_is = h.slot_is; changed = refl; same = h.same });
   changed = h.changed;
 })

@@ -12,13 +12,12 @@ use Rattle.machine.specs.declared.state.Stepped.TheVariants as stepped
 use Rattle.machine.specs.Rows.{Work}
 use Rattle.machine.specs.Rows.Work.{Computes, AccessesStack, Accesses, Measures}
 use Rattle.machine.specs.MachineState.{MachineState}
-use Rattle.machine.specs.Rows.{Request, Outcome, asks, asks_for, told_for, waits, work_of}
+use Rattle.machine.specs.Rows.{Request, Answer, Outcome, asks, asks_for, work_outcome, waits, work_of}
 use Rattle.machine.specs.Rows.Request.{Touch}
-use Rattle.machine.specs.Rows.MemoryAnswer.{Reached}
 use Rattle.machine.specs.TableStep as table
 use Rattle.machine.specs.TableStep.{TableStep, StepsFrom, Attempts}
 use Rattle.machine.specs.Laws.{IsDetermined, IsWaiting}
-use Rattle.machine.proofs.StepCases.{steps_told}
+use Rattle.machine.proofs.StepCases.{steps_answered}
 use Rattle.machine.proofs.OneWay.{steps_one_way}
 use Rattle.machine.proofs.Stopping.{waits_in_place}
 use Rattle.debugger.specs.DebugState.{DebugState, hits}
@@ -61,23 +60,37 @@ store_determined who = record { reached = λ x a b n op r s g h. touched_once wh
 touch_is : (a b : ℕ) (p q : Op) → Touch a p ≡ Touch b q → a ≡ b
 touch_is a b p q e = cc
 
-away_waits : (w : Work) (i : Instr) (old : MachineState) (n : ℕ) (op : Op) → asks_for w ≡ Touch n op → told_for w i old (Reached reach.Away) ≡ waits n old
-away_waits Computes i old n op e = absurd (cc)
-away_waits (Measures k) i old n op e = absurd (cc)
-away_waits (AccessesStack x) i old n op e = absurd (cc)
-away_waits (Accesses x) i old n op e = ap (λ k. waits k old) (touch_is x.number n x.op op e)
+op_is : (a b : ℕ) (p q : Op) → Touch a p ≡ Touch b q → p ≡ q
+op_is a b p q e = cc
+
+-- memory answers that the object is away, and then the machine waits for it
+record Away (who : ℕ) (w : Work) (i : Instr) (old : MachineState) (n : ℕ) (before : StoreState) : Type 0 where
+  said : Answer (asks_for w)
+  answers : table.AnswersRequest (store_memory who) (asks_for w) before said before
+  waits : work_outcome w i old said ≡ waits n old
+
+away : (who : ℕ) (w : Work) (i : Instr) (old : MachineState) (n : ℕ) (op : Op) (before : StoreState) → asks_for w ≡ Touch n op
+    → Reaches before.objects n op → place_of before.places n ≢ Here → Away who w i old n before
+away who Computes i old n op before e g p = absurd (cc)
+away who (Measures k) i old n op before e g p = absurd (cc)
+away who (AccessesStack x) i old n op before e g p = absurd (cc)
+away who (Accesses x) i old n op before e g p = record {
+  said = reach.Away;
+  answers = subst (λ (q : Op). (store_memory who).reaches before x.number q reach.Away before) (sym (op_is x.number n x.op op e))
+      (subst (λ k. (store_memory who).reaches before k op reach.Away before) (sym (touch_is x.number n x.op op e)) (g, p, refl));
+  waits = ap (λ k. waits k old) (touch_is x.number n x.op op e);
+}
 
 waiting_step : (who n : ℕ) (old : MachineState) (before : StoreState) (i : Instr) (op : Op) → Attempts old i → asks i old ≡ Touch n op
     → Reaches before.objects n op → place_of before.places n ≢ Here
     → TableStep (store_memory who) old before (stepped.Waiting n) old before
 waiting_step who n old before i op t e g p =
-    let answers : table.AnswersRequest (store_memory who) (asks i old) before (Reached reach.Away) before =
-    subst (λ (q : Request). table.AnswersRequest (store_memory who) q before (Reached reach.Away) before) (sym e) (g, p, refl) in
+    let a = away who (work_of i old) i old n op before e g p in
     record {
       closes = false;
       mid = before;
-      steps = subst (λ (o : Outcome). StepsFrom old.stop (store_memory who) old before o before) (away_waits (work_of i old) i old n op e)
-          (steps_told (store_memory who) i old before before (Reached reach.Away) t answers);
+      steps = subst (λ (o : Outcome). StepsFrom old.stop (store_memory who) old before o before) a.waits
+          (steps_answered (store_memory who) i old before before a.said t a.answers);
       closed = refl;
     }
 
@@ -107,7 +120,7 @@ back way old new m n r w (TableRow h) =
     let wait = waiting_step m n w.debuggee.machine old.store w.instr w.op w.attempts w.access w.inside w.not_here in
     let once = steps_one_way (store_memory m) (store_determined m) w.debuggee.machine h.machine w.debuggee.machine old.store new.store old.store h.answer
     (stepped.Waiting n) step wait in
-    waiting_tells m h.machine.slot n h.debuggee.debugger h.answer r once.0 h.told
+    waiting_tells m h.machine.slot n h.debuggee.debugger h.answer r once.0 h.replied
 
 -- the answer that is told as waiting
 record IsWait (m k n : ℕ) (a : Stepped) : Type 0 where
@@ -121,10 +134,10 @@ ran_waits false k n m slot e = cc
 waiting_is : (k n m i : ℕ) → waiting k n ≡ waiting m i → (k ≡ m) × (i ≡ n)
 waiting_is k n m i e = (cc, cc)
 
-told_waiting : (m k n slot : ℕ) (a : Stepped) (d : DebugState) → waiting k n ≡ reply.Stepped m (reply_after a slot d) → IsWait m k n a
-told_waiting m k n slot (stepped.Ran w) d e = absurd (ran_waits (hits w d) k n m slot e)
-told_waiting m k n slot (stepped.Stopped s) d e = absurd (cc)
-told_waiting m k n slot (stepped.Waiting i) d e = let g = waiting_is k n m i e in record { number = g.0; answer = ap stepped.Waiting g.1 }
+reply_waits : (m k n slot : ℕ) (a : Stepped) (d : DebugState) → waiting k n ≡ reply.Stepped m (reply_after a slot d) → IsWait m k n a
+reply_waits m k n slot (stepped.Ran w) d e = absurd (ran_waits (hits w d) k n m slot e)
+reply_waits m k n slot (stepped.Stopped s) d e = absurd (cc)
+reply_waits m k n slot (stepped.Waiting i) d e = let g = waiting_is k n m i e in record { number = g.0; answer = ap stepped.Waiting g.1 }
 
 record Barred (who : ℕ) (before after : StoreState) (n : ℕ) (op : Op) : Type 0 where
   inside : Reaches before.objects n op
@@ -139,7 +152,7 @@ barred who before after n op _ w h = absurd w
 there : (way : Way) (old new : WorldState) (m k n : ℕ) → Steps (store_memory m) way old.machines old.store m (waiting k n) new.machines new.store
     → (k ≡ m) × Awaits way old m n × (new ≡ old)
 there way old new m k n h =
-    let t = told_waiting m k n h.machine.slot h.answer h.debuggee.debugger h.told in
+    let t = reply_waits m k n h.machine.slot h.answer h.debuggee.debugger h.replied in
     let step = subst (λ (a : Stepped). TableStep (store_memory m) h.debuggee.machine old.store a h.machine new.store) t.answer h.step in
     let w = waits_in_place (store_memory m) h.debuggee.machine h.machine old.store new.store n step in
     let b = barred m old.store new.store n w.1.1 w.1.2 w.1.6 w.1.5 in
@@ -166,8 +179,8 @@ there way old new m k n h =
 
 table_row : (way : Way) (old new : WorldState) (m k n : ℕ) → StepAnswer (store_memory m) way old.machines old.store m (waiting k n) new.machines new.store
     → Steps (store_memory m) way old.machines old.store m (waiting k n) new.machines new.store
-table_row way old new m k n (NoMachine h) = let e = h.told in absurd (cc)
-table_row way old new m k n (Pause h) = let e = h.told in absurd (cc)
+table_row way old new m k n (NoMachine h) = let e = h.replied in absurd (cc)
+table_row way old new m k n (Pause h) = let e = h.replied in absurd (cc)
 table_row way old new m k n (TableRow h) = h
 
 exactly : (way : Way) (old new : WorldState) (m n : ℕ) (r : Reply) → StepsStore way old m r new

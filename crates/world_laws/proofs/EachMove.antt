@@ -33,7 +33,7 @@ begun_leave old new n moved.Done h = Moves place.Here place.Leaving old.faults
       fits = λ g. omega (arith, g);
       unscoped = λ e. h.1;
       done = refl;
-      told = λ k p. refl;
+      replied = λ k p. refl;
       is_unmade = refl;
       fault = λ k p e. absurd e;
     }) h.2
@@ -47,7 +47,7 @@ ended_leave old new n moved.Done h = Moves place.Leaving place.Far new.faults
       fits = λ g. omega (arith, g);
       unscoped = λ e. absurd (cc);
       done = refl;
-      told = λ k p. refl;
+      replied = λ k p. refl;
       is_unmade = refl;
       fault = λ k p e. absurd e;
     }) h.2
@@ -57,7 +57,7 @@ ended_leave old new n (moved.Fault f) h = Moves place.Leaving place.Here new.fau
       fits = λ g. omega (arith, g);
       unscoped = λ e. absurd (cc);
       done = refl;
-      told = λ k p. refl;
+      replied = λ k p. refl;
       is_unmade = refl;
       fault = λ k p e. (h.1, sym e.0, e.1);
     }) h.2
@@ -70,7 +70,7 @@ begun_return old new n moved.Done h = Moves place.Far place.Returning old.faults
       fits = λ g. omega (arith, h.1);
       unscoped = λ e. absurd (cc);
       done = refl;
-      told = λ k p. refl;
+      replied = λ k p. refl;
       is_unmade = refl;
       fault = λ k p e. absurd e;
     }) h.2
@@ -84,7 +84,7 @@ ended_return old new n moved.Done h = Moves place.Returning place.Here old.fault
       fits = λ g. omega (arith, g);
       unscoped = λ e. absurd (cc);
       done = refl;
-      told = λ k p. refl;
+      replied = λ k p. refl;
       is_unmade = refl;
       fault = λ k p e. absurd e;
     }) h.1
@@ -94,7 +94,7 @@ ended_return old new n (moved.Fault f) h = Moves place.Returning place.Far new.f
       fits = λ g. omega (arith, g);
       unscoped = λ e. absurd (cc);
       done = refl;
-      told = λ k p. refl;
+      replied = λ k p. refl;
       is_unmade = refl;
       fault = λ k p e. (h.1, sym e.0, e.1);
     }) h.2

@@ -95,8 +95,8 @@ ship f c old new other a b g h p q =
 
 -- ---- showing
 
-bytes_first : (m : ℕ) (bytes : List ℕ) (o z : ℕ) (told : ShowReply) → ShowsBytes bytes o z told → is_settled (reply.Shown m told) ≡ true
-    → Decides (λ r. o + z ≤ length bytes) (show_reply.Outside ∷ []) (show_reply.Bytes (take z (drop o bytes))) told
+bytes_first : (m : ℕ) (bytes : List ℕ) (o z : ℕ) (replied : ShowReply) → ShowsBytes bytes o z replied → is_settled (reply.Shown m replied) ≡ true
+    → Decides (λ r. o + z ≤ length bytes) (show_reply.Outside ∷ []) (show_reply.Bytes (take z (drop o bytes))) replied
 bytes_first m bytes o z show_reply.Outside g p = inl (g, refl)
 bytes_first m bytes o z (show_reply.Bytes shown) g p = inr (g.0, ap show_reply.Bytes g.1)
 bytes_first m bytes o z show_reply.NoMemory g p = absurd (cc)
@@ -150,8 +150,8 @@ walk_once : (who : ℕ) (w : Way) (old x y : Debuggee) (s t u : StoreState) (a b
     → (a ≡ b) × (x ≡ y) × (t ≡ u)
 walk_once who w old x y s t u a b d e =
     let k = steps_one_way (store_memory who) (store_determined who) old.machine d.machine e.machine s t u d.answer e.answer d.step e.step in (
-      d.told ∙ ap (λ (r : Stepped). reply_after r d.machine.slot old.debugger) k.0
-          ∙ ap (λ (m : MachineState). reply_after e.answer m.slot old.debugger) k.1 ∙ sym e.told,
+      d.replied ∙ ap (λ (r : Stepped). reply_after r d.machine.slot old.debugger) k.0
+          ∙ ap (λ (m : MachineState). reply_after e.answer m.slot old.debugger) k.1 ∙ sym e.replied,
       d.changed ∙ ap (λ (r : Stepped). debuggee d.machine (debugged w r old.debugger)) k.0
           ∙ ap (λ (m : MachineState). debuggee m (debugged w e.answer old.debugger)) k.1 ∙ sym e.changed,
       k.2,
@@ -207,7 +207,7 @@ finds_once who c old new other s t u a b g h p q =
 pub machine : (who : ℕ) (c : MachineCommand) (old new other : List Debuggee) (s t u : StoreState) (a b : Reply)
     → AnswersMachine (store_memory who) old s who c a new t
     → AnswersMachine (store_memory who) old s who c b other u → is_settled a ≡ true → is_settled b ≡ true → Same new other t u a b
-machine who c old new other s t u a b (inl g) (inl h) p q = (g.told ∙ sym h.told, g.unchanged ∙ sym h.unchanged, g.same ∙ sym h.same)
+machine who c old new other s t u a b (inl g) (inl h) p q = (g.replied ∙ sym h.replied, g.unchanged ∙ sym h.unchanged, g.same ∙ sym h.same)
 machine who c old new other s t u a b (inl g) (inr h) p q = found_none (machine_at old who) h.debuggee g.none h.found
 machine who c old new other s t u a b (inr g) (inl h) p q = found_none (machine_at old who) g.debuggee h.none g.found
 machine who c old new other s t u a b (inr g) (inr h) p q = finds_once who c old new other s t u a b g h p q

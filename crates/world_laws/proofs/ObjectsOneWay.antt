@@ -114,12 +114,12 @@ get n o z = decided (GetsAndKeeps n o z) (RangeNeeds n o z) (λ old. Outside ∷
 moved_once : (moves : StoreMoves) (from : Place) (more : List Moved) → MoveFirsts moves from more → MoveLeads moves → (reply_with : Moved → Reply)
     → Settles reply_with → (n : ℕ) → OneWay (λ old a new. AnswersMove moves reply_with old n a new)
 moved_once moves from more first leads reply_with settles n old new other a b g h f p q =
-    let x = settles g.moved (sym (ap is_settled g.told) ∙ p) in
-    let y = settles h.moved (sym (ap is_settled h.told) ∙ q) in
+    let x = settles g.moved (sym (ap is_settled g.replied) ∙ p) in
+    let y = settles h.moved (sym (ap is_settled h.replied) ∙ q) in
     let e = decides_once (MoveNeeds from old.store n) (move_refusals old.store n more) moved.Done g.moved h.moved
     (first old.store new.store n g.moved g.move x) (first old.store other.store n h.moved h.move y) in
     let s = leads old.store new.store other.store n h.moved (subst (λ (m : Moved). moves old.store n m new.store) e g.move) h.move f y in
-    (g.told ∙ ap reply_with e ∙ sym h.told, same_stores old new other s g.changed h.changed)
+    (g.replied ∙ ap reply_with e ∙ sym h.replied, same_stores old new other s g.changed h.changed)
 
 moving : (m : MoveKind) (n : ℕ) → OneWay (λ old a new. AnswersMove (Moves m) (reply.Moved n m) old n a new)
 moving m n = let o = decided_so m in moved_once (Moves m) o.start o.more o.first o.leads (reply.Moved n m) (moved_settles n m) n

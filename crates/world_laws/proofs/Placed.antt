@@ -122,7 +122,7 @@ there k old new r p (Called (Grown count room t e)) =
 there k old new r p (Called (Filled n bytes faults q l z e)) = ap (λ (s : StoreState). place_of s.places k) e ∙ sym (quiet r k _ q)
 there k old new r p (Called (Placed n a b faults m e)) =
     ap (λ (s : StoreState). place_of s.places k) e
-    ∙ (set_place (nat_eq n k) old.places n k b refl (let i = below old.objects n m.stands.0 in omega (arith, i, p)) ∙ sym (m.told k (place_of old.places k)))
+    ∙ (set_place (nat_eq n k) old.places n k b refl (let i = below old.objects n m.stands.0 in omega (arith, i, p)) ∙ sym (m.replied k (place_of old.places k)))
 there k old new r p (Walked m before after a q t) = ap (λ (ps : List Place). place_of ps k) (step_places m before after old new a t) ∙ sym (quiet r k _ q)
 
 -- ---- a run

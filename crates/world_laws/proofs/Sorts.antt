@@ -141,7 +141,7 @@ by_move : (moves : StoreState → ℕ → Moved → StoreState → Type 0) (repl
     → ((m : Moved) → moves old.store n m new.store → Move old.store n (reply_with m) new.store)
     → AnswersMove moves reply_with old n r new → MoveAnswer old n r new
 by_move moves reply_with old new n r f h = record {
-  move = subst (λ (x : Reply). Move old.store n x new.store) (sym h.told) (f h.moved h.move);
+  move = subst (λ (x : Reply). Move old.store n x new.store) (sym h.replied) (f h.moved h.move);
   changed = h.changed;
 }
 
@@ -157,7 +157,7 @@ moves : (old new : WorldState) (n : ℕ) (k : MoveKind) (r : Reply) → Answers 
 moves old new n k r h = let a = as_move old new n k r h in moved_sort old new (Object n (Moving k)) n r refl a.changed a.move
 
 objects : (old new : WorldState) (n : ℕ) (c : ObjectCommand) (r : Reply) → Answers old (Object n c) r new → Sort old (Object n c) r new
-objects old new n Free r h = subst (λ (x : Reply). Sort old (Object n Free) x new) (sym h.told) (freed old new n h.moved h.move h.changed)
+objects old new n Free r h = subst (λ (x : Reply). Sort old (Object n Free) x new) (sym h.replied) (freed old new n h.moved h.move h.changed)
 objects old new n (Put offset bytes) r h = put old new n offset bytes r h
 objects old new n (Get offset size) r h = get old new n offset size r h
 objects old new n (Moving k) r h = moves old new n k r h
@@ -182,12 +182,12 @@ unheld way.One d s h e = absurd (cc)
 
 misses : (old new : WorldState) (m : ℕ) (c : MachineCommand) (r : Reply) → Misses old.machines old.store m r new.machines new.store
     → Sort old (Machine m c) r new
-misses old new m c r h = Stays (ap is_placing h.told) refl (both old new h.unchanged h.same)
+misses old new m c r h = Stays (ap is_placing h.replied) refl (both old new h.unchanged h.same)
 
 halts : (w : Way) (old new : WorldState) (m : ℕ) (c : MachineCommand) (r : Reply) → Halts w old.machines old.store m r new.machines new.store
     → Sort old (Machine m c) r new
 halts w old new m c r h =
-    Pauses m (ap (λ (x : Reply). plain_marks (is_refusal x)) h.told) (ap is_placing h.told) (record {
+    Pauses m (ap (λ (x : Reply). plain_marks (is_refusal x)) h.replied) (ap is_placing h.replied) (record {
       debuggee = h.debuggee;
       found = h.found;
       debugger = with_pause h.slot h.debuggee.debugger;
@@ -198,7 +198,7 @@ halts w old new m c r h =
 walks : (w : Way) (old new : WorldState) (m : ℕ) (c : MachineCommand) (r : Reply)
     → Steps (store_memory m) w old.machines old.store m r new.machines new.store → Sort old (Machine m c) r new
 walks w old new m c r h =
-    Walks m w (ap (λ (x : Reply). plain_marks (is_refusal x)) h.told) (ap is_placing h.told) h
+    Walks m w (ap (λ (x : Reply). plain_marks (is_refusal x)) h.replied) (ap is_placing h.replied) h
 
 steps : (w : Way) (old new : WorldState) (m : ℕ) (c : MachineCommand) (r : Reply)
     → StepAnswer (store_memory m) w old.machines old.store m r new.machines new.store → Sort old (Machine m c) r new
@@ -227,9 +227,9 @@ unpaused (debug.Unbreak slot) d u = u
 unpaused (debug.Unwatch address size) d u = u
 unpaused _ d u = refl
 
-debugs : (old new : WorldState) (m : ℕ) (c : DebugCommand) (r : Reply) (d e : Debuggee) (told : Debugged) → machine_at old.machines m ≡ Some d
+debugs : (old new : WorldState) (m : ℕ) (c : DebugCommand) (r : Reply) (d e : Debuggee) (replied : Debugged) → machine_at old.machines m ≡ Some d
     → new.machines ≡ with_machine old.machines m e
-    → r ≡ reply.Debugged told → DebugsMachine c d told e → new.store ≡ old.store → Sort old (Machine m (Debug c)) r new
+    → r ≡ reply.Debugged replied → DebugsMachine c d replied e → new.store ≡ old.store → Sort old (Machine m (Debug c)) r new
 debugs old new m c r d e debugged.Done f s t h k =
     Tunes m (ap (λ (x : Reply). plain_marks (is_refusal x)) t) (ap is_placing t) (record {
       debuggee = d;
@@ -238,7 +238,7 @@ debugs old new m c r d e debugged.Done f s t h k =
       calm = λ stop g u. ap (λ (x : DebugState). x.paused) h.0.1 ∙ unpaused c d.debugger u;
       changed = s ∙ ap (λ (x : Debuggee). with_machine old.machines m x) h.1;
     }) (with_machines old new k)
-debugs old new m c r d e told f s t h k =
+debugs old new m c r d e replied f s t h k =
     let same : e ≡ d = h.1 ∙ ap (λ (x : DebugState). record d { debugger = x }) h.0.1 in
     Stays (ap is_placing t) refl (both old new (as_it_was old.machines m d e new.machines f s same) k)
 

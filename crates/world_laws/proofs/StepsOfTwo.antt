@@ -15,19 +15,18 @@ use Rattle.placement.specs.declared.places.Place.TheVariants.{Here}
 use Rattle.object_store.specs.Stores.{StoreState, store_memory, place_of, window_of, with_window}
 use Rattle.machine.specs.declared.state.Stepped.{Stepped}
 use Rattle.machine.specs.MachineState.{MachineState}
-use Rattle.machine.specs.Rows.{Request, MemoryAnswer, Outcome, asks}
+use Rattle.machine.specs.Rows.{Request, Answer, Outcome, asks}
 use Rattle.machine.specs.Rows.Request.{Nothing, Touch, Measure}
-use Rattle.machine.specs.Rows.MemoryAnswer.{NoAnswer, Reached, Measured}
 use Rattle.machine.specs.TableStep.{TableStep, AnswersRequest, Closes, StepsFrom}
 use Rattle.machine.specs.Laws.{AccessesNext}
-use Rattle.machine.proofs.StepCases.{StepCase, step_case, steps_told, steps_stayed}
+use Rattle.machine.proofs.StepCases.{StepCase, step_case, steps_answered, steps_stayed}
 use Rattle.machine.proofs.Others.{no_touch}
 
 -- ---- a step as a request and its answer, which does it again over any other store
 
 record Asked {M : Type 0} (mem : Memories M) (m : MachineState) (o : Outcome) (before mid : M) : Type 0 where
   request : Request
-  said : MemoryAnswer
+  said : Answer request
   answers : AnswersRequest mem request before said mid
   touches : (n : ℕ) (op : Op) → request ≡ Touch n op → AccessesNext m n
   again : (x y : M) → AnswersRequest mem request x said y → StepsFrom m.stop mem m x o y
@@ -39,14 +38,14 @@ over mem m o p x y e f s = rw (e, f) s
 case_asked : {M : Type 0} (mem : Memories M) (m : MachineState) (o : Outcome) (before mid : M) → StepCase mem m before o mid → Asked mem m o before mid
 case_asked mem m o before mid (inl d) = record {
   request = Nothing;
-  said = NoAnswer;
+  said = tt;
   answers = d.same;
   touches = λ n op e. no_touch n op e;
   again = λ x y e. over mem m o _ x y d.becomes e (steps_stayed mem m.stop d.stop m x d.stopped);
 }
 case_asked mem m o before mid (inr (inl d)) = record {
   request = Nothing;
-  said = NoAnswer;
+  said = tt;
   answers = d.same;
   touches = λ n op e. no_touch n op e;
   again = λ x y e. over mem m o _ x y d.becomes e (d.again x);
@@ -56,7 +55,7 @@ case_asked mem m o before mid (inr (inr d)) = record {
   said = d.said;
   answers = d.answers;
   touches = λ n op e. record { instr = d.instr; op = op; attempts = d.attempts; asks = e };
-  again = λ x y a. subst (λ (p : Outcome). StepsFrom m.stop mem m x p y) (sym d.becomes) (steps_told mem d.instr m x y d.said d.attempts a);
+  again = λ x y a. subst (λ (p : Outcome). StepsFrom m.stop mem m x p y) (sym d.becomes) (steps_answered mem d.instr m x y d.said d.attempts a);
 }
 
 -- ---- what a request does to the store
@@ -67,8 +66,8 @@ touched who n op s = record s {
   windows = set s.windows who (noted n (window_of s.windows who));
 }
 
-abbrev effect : ℕ → Request → MemoryAnswer → StoreState → StoreState
-effect who (Touch n op) (Reached (reach.Done v)) s = touched who n op s
+abbrev effect : ℕ → (q : Request) → Answer q → StoreState → StoreState
+effect who (Touch n op) (reach.Done v) s = touched who n op s
 effect who _ _ s = s
 
 abbrev closed : Bool → ℕ → StoreState → StoreState
@@ -82,35 +81,28 @@ Allows op bytes p reach.Away = IsInside op (length bytes) × (p ≡ Here → ⊥
 Allows op bytes p (reach.Done v) = IsInside op (length bytes) × (p ≡ Here) × (v ≡ answer op bytes)
 Allows op bytes p _ = ⊥
 
-abbrev Says : StoreState → Request → MemoryAnswer → Type 0
-Says s Nothing NoAnswer = Unit {0}
-Says s (Touch n op) (Reached r) = Allows op (bytes_of s.objects n) (place_of s.places n) r
-Says s (Measure n) (Measured k) = k ≡ length (bytes_of s.objects n)
-Says s _ _ = ⊥
+abbrev Says : StoreState → (q : Request) → Answer q → Type 0
+Says s Nothing a = Unit {0}
+Says s (Touch n op) r = Allows op (bytes_of s.objects n) (place_of s.places n) r
+Says s (Measure n) k = k ≡ length (bytes_of s.objects n)
 
-split : (who : ℕ) (q : Request) (a : MemoryAnswer) (x y : StoreState) → AnswersRequest (store_memory who) q x a y → Says x q a × (y ≡ effect who q a x)
-split who Nothing NoAnswer x y h = (tt, h)
-split who Nothing _ x y h = absurd h
-split who (Touch n op) (Reached (reach.Done v)) x y h = ((h.0, h.1, h.2), h.3)
-split who (Touch n op) (Reached reach.Away) x y h = ((h.0, h.1), h.2)
-split who (Touch n op) (Reached reach.Outside) x y h = (h.0, h.1)
-split who (Touch n op) (Reached reach.Busy) x y h = absurd h
-split who (Touch n op) (Reached reach.Worn) x y h = absurd h
-split who (Touch n op) _ x y h = absurd h
-split who (Measure n) (Measured k) x y h = (h.0, h.1)
-split who (Measure n) _ x y h = absurd h
+split : (who : ℕ) (q : Request) (a : Answer q) (x y : StoreState) → AnswersRequest (store_memory who) q x a y → Says x q a × (y ≡ effect who q a x)
+split who Nothing a x y h = (tt, h)
+split who (Touch n op) (reach.Done v) x y h = ((h.0, h.1, h.2), h.3)
+split who (Touch n op) reach.Away x y h = ((h.0, h.1), h.2)
+split who (Touch n op) reach.Outside x y h = (h.0, h.1)
+split who (Touch n op) reach.Busy x y h = absurd h
+split who (Touch n op) reach.Worn x y h = absurd h
+split who (Measure n) k x y h = (h.0, h.1)
 
-join : (who : ℕ) (q : Request) (a : MemoryAnswer) (x : StoreState) → Says x q a → AnswersRequest (store_memory who) q x a (effect who q a x)
-join who Nothing NoAnswer x h = refl
-join who Nothing _ x h = absurd h
-join who (Touch n op) (Reached (reach.Done v)) x h = (h.0, h.1, h.2, refl)
-join who (Touch n op) (Reached reach.Away) x h = (h.0, h.1, refl)
-join who (Touch n op) (Reached reach.Outside) x h = (h, refl)
-join who (Touch n op) (Reached reach.Busy) x h = absurd h
-join who (Touch n op) (Reached reach.Worn) x h = absurd h
-join who (Touch n op) _ x h = absurd h
-join who (Measure n) (Measured k) x h = (h, refl)
-join who (Measure n) _ x h = absurd h
+join : (who : ℕ) (q : Request) (a : Answer q) (x : StoreState) → Says x q a → AnswersRequest (store_memory who) q x a (effect who q a x)
+join who Nothing a x h = refl
+join who (Touch n op) (reach.Done v) x h = (h.0, h.1, h.2, refl)
+join who (Touch n op) reach.Away x h = (h.0, h.1, refl)
+join who (Touch n op) reach.Outside x h = (h, refl)
+join who (Touch n op) reach.Busy x h = absurd h
+join who (Touch n op) reach.Worn x h = absurd h
+join who (Measure n) k x h = (h, refl)
 
 closes_so : (b : Bool) (who : ℕ) (x y : StoreState) → Closes b (store_memory who) x y → y ≡ closed b who x
 closes_so true who x y h = h
@@ -138,17 +130,17 @@ touched_commute m k n i op other s d e =
 abbrev Apart : Request → Request → Type 0
 Apart q r = (n : ℕ) (op other : Op) → q ≡ Touch n op → r ≡ Touch n other → ⊥
 
-effects_commute : (m k : ℕ) (q r : Request) (a b : MemoryAnswer) (s : StoreState) → m ≢ k → Apart q r
+effects_commute : (m k : ℕ) (q r : Request) (a : Answer q) (b : Answer r) (s : StoreState) → m ≢ k → Apart q r
     → effect k r b (effect m q a s) ≡ effect m q a (effect k r b s)
-effects_commute m k (Touch n op) (Touch i other) (Reached (reach.Done v)) (Reached (reach.Done w)) s d p =
+effects_commute m k (Touch n op) (Touch i other) (reach.Done v) (reach.Done w) s d p =
     touched_commute m k n i op other s d (λ e. p n op other refl (ap (λ j. Touch j other) (sym e)))
-effects_commute m k (Touch n op) (Touch i other) (Reached (reach.Done v)) _ s d p = refl
-effects_commute m k (Touch n op) _ (Reached (reach.Done v)) _ s d p = refl
+effects_commute m k (Touch n op) (Touch i other) (reach.Done v) _ s d p = refl
+effects_commute m k (Touch n op) _ (reach.Done v) _ s d p = refl
 effects_commute m k _ _ _ _ s d p = refl
 
-effect_closed : (b : Bool) (m k : ℕ) (r : Request) (c : MemoryAnswer) (s : StoreState) → m ≢ k → effect k r c (closed b m s) ≡ closed b m (effect k r c s)
+effect_closed : (b : Bool) (m k : ℕ) (r : Request) (c : Answer r) (s : StoreState) → m ≢ k → effect k r c (closed b m s) ≡ closed b m (effect k r c s)
 effect_closed false m k r c s d = refl
-effect_closed true m k (Touch n op) (Reached (reach.Done v)) s d =
+effect_closed true m k (Touch n op) (reach.Done v) s d =
     ap (λ (ws : List (List ℕ)). record (touched k n op s) { windows = ws }) (changed_commute s.windows m k (λ w. []) (noted n) d)
 effect_closed true m k _ _ s d = refl
 
@@ -157,10 +149,10 @@ closed_commute true true m k s d = ap (λ (ws : List (List ℕ)). record s { win
 closed_commute true false m k s d = refl
 closed_commute false c m k s d = refl
 
-abbrev acted : ℕ → Request → MemoryAnswer → Bool → StoreState → StoreState
+abbrev acted : ℕ → (q : Request) → Answer q → Bool → StoreState → StoreState
 acted who q a b s = closed b who (effect who q a s)
 
-acted_commute : (m k : ℕ) (q r : Request) (a c : MemoryAnswer) (b d : Bool) (s : StoreState) → m ≢ k → Apart q r
+acted_commute : (m k : ℕ) (q r : Request) (a : Answer q) (c : Answer r) (b d : Bool) (s : StoreState) → m ≢ k → Apart q r
     → acted k r c d (acted m q a b s) ≡ acted m q a b (acted k r c d s)
 acted_commute m k q r a c b d s e p =
     ap (closed d k) (effect_closed b m k r c (effect m q a s) e ∙ ap (closed b m) (effects_commute m k q r a c s e p))
@@ -169,49 +161,46 @@ acted_commute m k q r a c b d s e p =
 
 -- ---- what is said stays so
 
-effect_places : (who : ℕ) (q : Request) (a : MemoryAnswer) (s : StoreState) → (effect who q a s).places ≡ s.places
-effect_places who (Touch n op) (Reached (reach.Done v)) s = refl
+effect_places : (who : ℕ) (q : Request) (a : Answer q) (s : StoreState) → (effect who q a s).places ≡ s.places
+effect_places who (Touch n op) (reach.Done v) s = refl
 effect_places who _ _ s = refl
 
-acted_places : (who : ℕ) (q : Request) (a : MemoryAnswer) (b : Bool) (s : StoreState) → (acted who q a b s).places ≡ s.places
+acted_places : (who : ℕ) (q : Request) (a : Answer q) (b : Bool) (s : StoreState) → (acted who q a b s).places ≡ s.places
 acted_places who q a true s = effect_places who q a s
 acted_places who q a false s = effect_places who q a s
 
-acted_objects : (who : ℕ) (q : Request) (a : MemoryAnswer) (b : Bool) (s : StoreState) → (acted who q a b s).objects ≡ (effect who q a s).objects
+acted_objects : (who : ℕ) (q : Request) (a : Answer q) (b : Bool) (s : StoreState) → (acted who q a b s).objects ≡ (effect who q a s).objects
 acted_objects who q a true s = refl
 acted_objects who q a false s = refl
 
-effect_bytes : (who : ℕ) (q : Request) (a : MemoryAnswer) (s : StoreState) (n : ℕ) → ((op : Op) → q ≡ Touch n op → ⊥)
+effect_bytes : (who : ℕ) (q : Request) (a : Answer q) (s : StoreState) (n : ℕ) → ((op : Op) → q ≡ Touch n op → ⊥)
     → bytes_of (effect who q a s).objects n ≡ bytes_of s.objects n
-effect_bytes who (Touch k op) (Reached (reach.Done v)) s n d = get_or-set_other s.objects k n _ [] (λ e. d op (ap (λ j. Touch j op) (sym e)))
+effect_bytes who (Touch k op) (reach.Done v) s n d = get_or-set_other s.objects k n _ [] (λ e. d op (ap (λ j. Touch j op) (sym e)))
 effect_bytes who _ _ s n d = refl
 
-effect_lengths : (who : ℕ) (q : Request) (a : MemoryAnswer) (s : StoreState) (n : ℕ) → Says s q a
+effect_lengths : (who : ℕ) (q : Request) (a : Answer q) (s : StoreState) (n : ℕ) → Says s q a
     → length (bytes_of (effect who q a s).objects n) ≡ length (bytes_of s.objects n)
-effect_lengths who (Touch k op) (Reached (reach.Done v)) s n h =
+effect_lengths who (Touch k op) (reach.Done v) s n h =
     length-set_at s.objects k n (after op (bytes_of s.objects k)) (length-after op (bytes_of s.objects k) h.0)
 effect_lengths who _ _ s n h = refl
 
-says_stays : (s t : StoreState) (r : Request) (c : MemoryAnswer) → t.places ≡ s.places
+says_stays : (s t : StoreState) (r : Request) (c : Answer r) → t.places ≡ s.places
     → ((n : ℕ) (op : Op) → r ≡ Touch n op → bytes_of t.objects n ≡ bytes_of s.objects n)
     → ((n : ℕ) → length (bytes_of t.objects n) ≡ length (bytes_of s.objects n)) → Says s r c → Says t r c
-says_stays s t Nothing NoAnswer p e l h = tt
-says_stays s t Nothing _ p e l h = absurd h
-says_stays s t (Touch n op) (Reached x) p e l h =
+says_stays s t Nothing c p e l h = tt
+says_stays s t (Touch n op) x p e l h =
     subst (λ (o : List ℕ). Allows op o (place_of t.places n) x) (sym (e n op refl))
     (subst (λ (ps : List Place). Allows op (bytes_of s.objects n) (place_of ps n) x) (sym p) h)
-says_stays s t (Touch n op) _ p e l h = absurd h
-says_stays s t (Measure n) (Measured k) p e l h = h ∙ sym (l n)
-says_stays s t (Measure n) _ p e l h = absurd h
+says_stays s t (Measure n) k p e l h = h ∙ sym (l n)
 
 -- ---- two steps
 
-record Turned (m k : ℕ) (q r : Request) (a c : MemoryAnswer) (b d : Bool) (x z : StoreState) : Type 0 where
+record Turned (m k : ℕ) (q r : Request) (a : Answer q) (c : Answer r) (b d : Bool) (x z : StoreState) : Type 0 where
   second : Says x r c
   first : Says (acted k r c d x) q a
   ends : z ≡ acted m q a b (acted k r c d x)
 
-turned : (m k : ℕ) (q r : Request) (a c : MemoryAnswer) (b d : Bool) (x y z : StoreState) → m ≢ k → Apart q r → Says x q a → y ≡ acted m q a b x
+turned : (m k : ℕ) (q r : Request) (a : Answer q) (c : Answer r) (b d : Bool) (x y z : StoreState) → m ≢ k → Apart q r → Says x q a → y ≡ acted m q a b x
     → Says y r c → z ≡ acted k r c d y
     → Turned m k q r a c b d x z
 turned m k q r a c b d x y z e p h f g i =
@@ -230,7 +219,7 @@ turned m k q r a c b d x y z e p h f g i =
 -- a step, by its request and what is said
 record Stepping (who : ℕ) (p : MachineState) (x : StoreState) (a : Stepped) (q : MachineState) (y : StoreState) : Type 0 where
   request : Request
-  said : MemoryAnswer
+  said : Answer request
   closes : Bool
   says : Says x request said
   becomes : y ≡ acted who request said closes x

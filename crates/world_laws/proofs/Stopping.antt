@@ -18,8 +18,7 @@ use Rattle.machine.specs.declared.state.Accessing.{Accessing}
 use Rattle.machine.specs.Rows.{Work}
 use Rattle.machine.specs.Rows.Work.{Computes, AccessesStack, Accesses, Measures}
 use Rattle.machine.specs.MachineState.{MachineState, stack_size}
-use Rattle.machine.specs.Rows.{MemoryAnswer, Outcome, told_for, told_own, told_call, exits, work_of}
-use Rattle.machine.specs.Rows.MemoryAnswer.{Reached, Measured}
+use Rattle.machine.specs.Rows.{Answer, Outcome, asks_for, work_outcome, stack_outcome, call_outcome, exits, work_of}
 use Rattle.machine.specs.TableStep.{TableStep, Closes}
 use Rattle.machine.proofs.StepCases.{StepCase, step_case}
 use Rattle.world_laws.proofs.Placed.{Kept, step_keeps}
@@ -35,7 +34,7 @@ record Stops (o : Outcome) : Type 0 where
 abbrev MayStop : MachineState → Outcome → Type 0
 MayStop old o = Stops o ⊎ (o.machine.stop ≡ old.stop)
 
-own_stops : (b : Bool) (i : Instr) (x : Accessing) (old : MachineState) → MayStop old (told_own b i x old)
+own_stops : (b : Bool) (i : Instr) (x : Accessing) (old : MachineState) → MayStop old (stack_outcome b i x old)
 own_stops true i x old = inr refl
 own_stops false i x old = inl (record { stop = _; answer = refl; closes = refl })
 
@@ -43,24 +42,22 @@ exits_stop : (frames : List Frame) (old : MachineState) → MayStop old (exits f
 exits_stop [] old = inl (record { stop = _; answer = refl; closes = refl })
 exits_stop (f ∷ frames) old = inr refl
 
-call_stops : (o : Option Helper) (i : Instr) (old : MachineState) → MayStop old (told_call i o 0 old)
+call_stops : (o : Option Helper) (i : Instr) (old : MachineState) → MayStop old (call_outcome i o 0 old)
 call_stops (Some h) i old = inr refl
 call_stops None i old = inr refl
 
-told_stops : (w : Work) (i : Instr) (old : MachineState) (a : MemoryAnswer) → MayStop old (told_for w i old a)
-told_stops (Accesses x) i old (Reached reach.Away) = inr refl
-told_stops (Accesses x) i old (Reached reach.Busy) = inr refl
-told_stops (Accesses x) i old (Reached (reach.Done v)) = inr refl
-told_stops (Accesses x) i old (Reached reach.Outside) = inl (record { stop = _; answer = refl; closes = refl })
-told_stops (Accesses x) i old (Reached reach.Worn) = inl (record { stop = _; answer = refl; closes = refl })
-told_stops (Accesses x) i old _ = inl (record { stop = _; answer = refl; closes = refl })
-told_stops (AccessesStack x) i old a = own_stops (is_inside x.op stack_size) i x old
-told_stops (Measures k) i old (Measured l) = inr refl
-told_stops (Measures k) i old _ = inr refl
-told_stops Computes Exit old a = exits_stop old.frames old
-told_stops Computes (CallLocal o) old a = inr refl
-told_stops Computes (CallHelper id) old a = call_stops (helper_of id) (CallHelper id) old
-told_stops Computes _ old a = inr refl
+outcome_stops : (w : Work) (i : Instr) (old : MachineState) (a : Answer (asks_for w)) → MayStop old (work_outcome w i old a)
+outcome_stops (Accesses x) i old reach.Away = inr refl
+outcome_stops (Accesses x) i old reach.Busy = inr refl
+outcome_stops (Accesses x) i old (reach.Done v) = inr refl
+outcome_stops (Accesses x) i old reach.Outside = inl (record { stop = _; answer = refl; closes = refl })
+outcome_stops (Accesses x) i old reach.Worn = inl (record { stop = _; answer = refl; closes = refl })
+outcome_stops (AccessesStack x) i old a = own_stops (is_inside x.op stack_size) i x old
+outcome_stops (Measures k) i old l = inr refl
+outcome_stops Computes Exit old a = exits_stop old.frames old
+outcome_stops Computes (CallLocal o) old a = inr refl
+outcome_stops Computes (CallHelper id) old a = call_stops (helper_of id) (CallHelper id) old
+outcome_stops Computes _ old a = inr refl
 
 -- ---- a step that ends in a stop
 
@@ -85,10 +82,10 @@ closed_none who false mid after e h = h
 none_some : {P : Type 0} (o p : Option Stop) (s : Stop) → o ≡ None → p ≡ o → p ≡ Some s → P
 none_some o p s e f g = absurd (cc)
 
-told_ends : (who : ℕ) (old : MachineState) (o : Outcome) (mid after : StoreState) (s : Stop) → old.stop ≡ None → o.machine.stop ≡ Some s → MayStop old o
+outcome_ends : (who : ℕ) (old : MachineState) (o : Outcome) (mid after : StoreState) (s : Stop) → old.stop ≡ None → o.machine.stop ≡ Some s → MayStop old o
     → Closes o.closes (store_memory who) mid after → EndsStopped who o.answer after
-told_ends who old o mid after s r e (inl d) c = record { stop = d.stop; answer = d.answer; window = closed_empty who o.closes mid after d.closes c }
-told_ends who old o mid after s r e (inr d) c = none_some old.stop o.machine.stop s r d e
+outcome_ends who old o mid after s r e (inl d) c = record { stop = d.stop; answer = d.answer; window = closed_empty who o.closes mid after d.closes c }
+outcome_ends who old o mid after s r e (inr d) c = none_some old.stop o.machine.stop s r d e
 
 case_ends : (who : ℕ) (old : MachineState) (before mid after : StoreState) (o : Outcome) (s : Stop) → o.machine.stop ≡ Some s
     → ((t : Stop) → old.stop ≡ Some t → window_of before.windows who ≡ []) → StepCase (store_memory who) old before o mid
@@ -107,7 +104,7 @@ case_ends who old before mid after o s e w (inr (inl d)) c =
       window = closed_empty who o.closes mid after (ap (λ (x : Outcome). x.closes) d.becomes) c;
     }
 case_ends who old before mid after o s e w (inr (inr d)) c =
-    told_ends who old o mid after s d.attempts.runs e (subst (MayStop old) (sym d.becomes) (told_stops (work_of d.instr old) d.instr old d.said)) c
+    outcome_ends who old o mid after s d.attempts.runs e (subst (MayStop old) (sym d.becomes) (outcome_stops (work_of d.instr old) d.instr old d.said)) c
 
 pub ends_stopped : (who : ℕ) (old new : MachineState) (before after : StoreState) (a : Stepped) (s : Stop)
     → TableStep (store_memory who) old before a new after → new.stop ≡ Some s

@@ -46,7 +46,7 @@ pub record IsMove (old : StoreState) (n : ℕ) («from» to : Place) (faults : �
   -- what is in scope isn't moved
   pub unscoped : «from» ≡ place.Here → IsScoped old n → ⊥
   pub done : is_refusal r ≡ false
-  pub told : Tells n to r
+  pub replied : Tells n to r
   pub is_unmade : is_made r ≡ false
   -- a fault tells the object and its place
   pub fault : (k : ℕ) (p : Place) → TellsFault k p r → HasRisen old.faults faults × (k ≡ n) × (p ≡ to)

@@ -17,8 +17,7 @@ use Rattle.machine.specs.declared.state.Written.{Written}
 use Rattle.machine.specs.declared.state.Stepped.{Stepped}
 use Rattle.machine.specs.declared.state.Stepped.TheVariants.{Ran}
 use Rattle.machine.specs.MachineState.{MachineState}
-use Rattle.machine.specs.Rows.{MemoryAnswer, Outcome, asks_for, told_for, told_access, range, work_of}
-use Rattle.machine.specs.Rows.MemoryAnswer.{NoAnswer, Reached, Measured}
+use Rattle.machine.specs.Rows.{Answer, Outcome, asks_for, work_outcome, object_outcome, range, work_of}
 use Rattle.machine.specs.TableStep.{AnswersRequest, Closes}
 use Rattle.machine.proofs.StepCases.{StepCase, step_case}
 use Rattle.world_laws.specs.Stepping.{IsTold, ChangesTold, StepsTellWhatTheyWrite}
@@ -52,7 +51,7 @@ byte_told false x v n i a before mid e h s d =
 
 reach_told : (who : ℕ) (x : Accessing) (i : Instr) (m : MachineState) (r : Reach) (a : Stepped) (before mid : StoreState)
     → Touches who before x.number x.op r mid
-    → a ≡ (told_access i x m (Reached r)).answer → ChangesTold a before.objects mid.objects
+    → a ≡ (object_outcome i x m r).answer → ChangesTold a before.objects mid.objects
 reach_told who x i m (reach.Done v) a before mid h s =
     let done : map_reaches before.objects x.number x.op (reach.Done v) mid.objects = (h.0, h.2, ap (λ (s : StoreState). s.objects) h.3) in
     λ n. (
@@ -66,16 +65,12 @@ reach_told who x i m _ a before mid h s = absurd h
 same_store : (a : Stepped) (before mid : StoreState) → mid ≡ before → ChangesTold a before.objects mid.objects
 same_store a before mid e = same_told a before.objects mid.objects (ap (λ (s : StoreState). s.objects) e)
 
-work_told : (who : ℕ) (w : Work) (i : Instr) (m : MachineState) (said : MemoryAnswer) (a : Stepped) (before mid : StoreState)
-    → AnswersRequest (store_memory who) (asks_for w) before said mid → a ≡ (told_for w i m said).answer → ChangesTold a before.objects mid.objects
-work_told who Computes i m NoAnswer a before mid h s = same_store a before mid h
-work_told who Computes i m _ a before mid h s = absurd h
-work_told who (Measures n) i m (Measured k) a before mid h s = same_store a before mid h.1
-work_told who (Measures n) i m _ a before mid h s = absurd h
-work_told who (AccessesStack x) i m NoAnswer a before mid h s = same_store a before mid h
-work_told who (AccessesStack x) i m _ a before mid h s = absurd h
-work_told who (Accesses x) i m (Reached r) a before mid h s = reach_told who x i m r a before mid h s
-work_told who (Accesses x) i m _ a before mid h s = absurd h
+work_told : (who : ℕ) (w : Work) (i : Instr) (m : MachineState) (said : Answer (asks_for w)) (a : Stepped) (before mid : StoreState)
+    → AnswersRequest (store_memory who) (asks_for w) before said mid → a ≡ (work_outcome w i m said).answer → ChangesTold a before.objects mid.objects
+work_told who Computes i m said a before mid h s = same_store a before mid h
+work_told who (Measures n) i m k a before mid h s = same_store a before mid h.1
+work_told who (AccessesStack x) i m said a before mid h s = same_store a before mid h
+work_told who (Accesses x) i m r a before mid h s = reach_told who x i m r a before mid h s
 
 case_told : (who : ℕ) (m : MachineState) (before mid : StoreState) (o : Outcome) → StepCase (store_memory who) m before o mid
     → ChangesTold o.answer before.objects mid.objects

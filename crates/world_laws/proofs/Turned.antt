@@ -68,7 +68,7 @@ local_none way m r old new before after h = record {
   changed = h.unchanged;
   number = tt;
   goes = λ n e. absurd e;
-  again = λ xs x y e d. inl (record { none = e ∙ h.none; told = h.told; unchanged = refl; same = d });
+  again = λ xs x y e d. inl (record { none = e ∙ h.none; replied = h.replied; unchanged = refl; same = d });
 }
 
 local_pause : (way : Way) (m : ℕ) (r : Reply) (old new : List Debuggee) (before after : StoreState) → Halts way old before m r new after
@@ -86,7 +86,7 @@ local_pause way m r old new before after h =
         debuggee = h.debuggee;
         found = f ∙ h.found;
         slot = h.slot;
-        told = h.told;
+        replied = h.replied;
         held = h.held;
         slot_is = h.slot_is;
         changed = refl;
@@ -110,7 +110,7 @@ local_row way m r old new before after h = record {
     answer = h.answer;
     machine = h.machine;
     step = d;
-    told = h.told;
+    replied = h.replied;
     changed = refl;
   });
 }

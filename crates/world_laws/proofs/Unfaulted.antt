@@ -44,21 +44,21 @@ carries who = record {
   measured = λ old n. refl;
 }
 
-walk : (who : ℕ) (w : Way) (old new : Debuggee) (s t : StoreState) (told : StepReply) → Walks (store_memory who) w old s told new t
-    → Walks (store_memory who) w old (cleared s) told new (cleared t)
-walk who w old new s t told d = record {
+walk : (who : ℕ) (w : Way) (old new : Debuggee) (s t : StoreState) (replied : StepReply) → Walks (store_memory who) w old s replied new t
+    → Walks (store_memory who) w old (cleared s) replied new (cleared t)
+walk who w old new s t replied d = record {
   goes = d.goes;
   answer = d.answer;
   machine = d.machine;
   step = (steps_carry (store_memory who) (store_memory who) true cleared (carries who) old.machine d.machine s t d.answer tt refl d.step).0;
-  told = d.told;
+  replied = d.replied;
   changed = d.changed;
 }
 
-step : (who : ℕ) (w : Way) (old new : Debuggee) (s t : StoreState) (told : StepReply) → AnswersStep (store_memory who) w old s told new t
-    → AnswersStep (store_memory who) w old (cleared s) told new (cleared t)
+step : (who : ℕ) (w : Way) (old new : Debuggee) (s t : StoreState) (replied : StepReply) → AnswersStep (store_memory who) w old s replied new t
+    → AnswersStep (store_memory who) w old (cleared s) replied new (cleared t)
 step who w old new s t (step_reply.Paused slot) h = record { held = h.held; slot_is = h.slot_is; changed = h.changed; same = ap cleared h.same }
-step who w old new s t told h = walk who w old new s t told h
+step who w old new s t replied h = walk who w old new s t replied h
 
 command : (who : ℕ) (c : MachineCommand) (old new : Debuggee) (s t : StoreState) (r : Reply) → AnswersCommand (store_memory who) old s who c r new t
     → AnswersCommand (store_memory who) old (cleared s) who c r new (cleared t)
@@ -68,7 +68,7 @@ command who (Debug c) old new s t r h = (h.0, h.1, h.2, ap cleared h.3)
 
 machine : (who : ℕ) (c : MachineCommand) (old new : List Debuggee) (s t : StoreState) (r : Reply) → AnswersMachine (store_memory who) old s who c r new t
     → AnswersMachine (store_memory who) old (cleared s) who c r new (cleared t)
-machine who c old new s t r (inl h) = inl (record { none = h.none; told = h.told; unchanged = h.unchanged; same = ap cleared h.same })
+machine who c old new s t r (inl h) = inl (record { none = h.none; replied = h.replied; unchanged = h.unchanged; same = ap cleared h.same })
 machine who c old new s t r (inr h) =
     inr (record { debuggee = h.debuggee; became = h.became; found = h.found; answers = command who c h.debuggee h.became s t r h.answers; changed = h.changed })
 
@@ -79,8 +79,8 @@ moves : (does : StoreState → ℕ → Moved → StoreState → Type 0) (reply_w
     → is_settled r ≡ true → AnswersMove does reply_with (without_faults old) n r (without_faults new)
 moves does reply_with old new n r s c h t = record {
   moved = h.moved;
-  move = c old.store new.store n h.moved h.move (s h.moved (sym (ap is_settled h.told) ∙ t));
-  told = h.told;
+  move = c old.store new.store n h.moved h.move (s h.moved (sym (ap is_settled h.replied) ∙ t));
+  replied = h.replied;
   changed = ap without_faults h.changed;
 }
 

@@ -19,12 +19,11 @@ use Rattle.object_store.specs.Stores.{StoreState, store_memory, Touches, window_
 use Rattle.placement.specs.declared.places.Place.TheVariants as place
 use Rattle.machine.specs.Grants.{GrantState, is_granted}
 use Rattle.machine.specs.MachineState.{MachineState}
-use Rattle.machine.specs.Rows.{Request, MemoryAnswer, Outcome, asks}
+use Rattle.machine.specs.Rows.{Request, Answer, Outcome, asks}
 use Rattle.machine.specs.Rows.Request.{Nothing, Touch, Measure}
-use Rattle.machine.specs.Rows.MemoryAnswer.{NoAnswer, Reached, Measured}
 use Rattle.machine.specs.TableStep.{TableStep, AnswersRequest, Closes, StepsFrom}
 use Rattle.machine.specs.declared.state.Stepped.{Stepped}
-use Rattle.machine.proofs.StepCases.{StepCase, step_case, steps_told, steps_stayed}
+use Rattle.machine.proofs.StepCases.{StepCase, step_case, steps_answered, steps_stayed}
 use Rattle.machine.proofs.Confined.{Allowed, allowed, reads, keeps}
 use Rattle.debugger.specs.Debuggees.{Walks, AnswersStep}
 use Rattle.debugger.specs.declared.commands.Way.{Way}
@@ -92,14 +91,11 @@ module _ (n : ℕ) (b : List ℕ) (who : ℕ) where
       (((λ i. t.0 (subst (λ (y : List ℕ). IsInside op (length y)) (other old.objects n k b h) i)), ap (blind n b) t.1), leaves_same n old new t.1)
   touch old new k op _ h t = absurd t
 
-  answered : (q : Request) (old new : StoreState) (said : MemoryAnswer) → Off n q → AnswersRequest (store_memory who) q old said new
+  answered : (q : Request) (old new : StoreState) (said : Answer q) → Off n q → AnswersRequest (store_memory who) q old said new
       → AnswersRequest (store_memory who) q (blind n b old) said (blind n b new) × Leaves n old new
-  answered Nothing old new NoAnswer h a = (ap (blind n b) a, leaves_same n old new a)
-  answered (Measure k) old new (Measured c) h a = ((a.0 ∙ ap length (sym (other old.objects n k b h)), ap (blind n b) a.1), leaves_same n old new a.1)
-  answered (Touch k op) old new (Reached r) h a = touch old new k op r h a
-  answered Nothing old new _ h a = absurd a
-  answered (Measure k) old new _ h a = absurd a
-  answered (Touch k op) old new _ h a = absurd a
+  answered Nothing old new said h a = (ap (blind n b) a, leaves_same n old new a)
+  answered (Measure k) old new c h a = ((a.0 ∙ ap length (sym (other old.objects n k b h)), ap (blind n b) a.1), leaves_same n old new a.1)
+  answered (Touch k op) old new r h a = touch old new k op r h a
 
   case_blind : (m : MachineState) (old mid : StoreState) (o : Outcome) → is_granted m.grants false n ≡ false → StepCase (store_memory who) m old o mid
       → StepsFrom m.stop (store_memory who) m (blind n b old) o (blind n b mid) × Leaves n old mid
@@ -117,7 +113,7 @@ module _ (n : ℕ) (b : List ℕ) (who : ℕ) where
   case_blind m old mid o l (inr (inr d)) =
       let a = answered (asks d.instr m) old mid d.said (off m.grants n (asks d.instr m) l (allowed d.instr m d.attempts.free)) d.answers in (
         subst (λ (p : Outcome). StepsFrom m.stop (store_memory who) m (blind n b old) p (blind n b mid)) (sym d.becomes)
-            (steps_told (store_memory who) d.instr m (blind n b old) (blind n b mid) d.said d.attempts a.0),
+            (steps_answered (store_memory who) d.instr m (blind n b old) (blind n b mid) d.said d.attempts a.0),
         a.1,
       )
 
@@ -135,23 +131,23 @@ module _ (n : ℕ) (b : List ℕ) (who : ℕ) where
 
   -- ---- machines
 
-  walk : (w : Way) (old new : Debuggee) (s t : StoreState) (told : StepReply) → LacksGrant n old → Walks (store_memory who) w old s told new t
-      → Walks (store_memory who) w old (blind n b s) told new (blind n b t) × Leaves n s t × (new.machine.grants ≡ old.machine.grants)
-  walk w old new s t told l d =
+  walk : (w : Way) (old new : Debuggee) (s t : StoreState) (replied : StepReply) → LacksGrant n old → Walks (store_memory who) w old s replied new t
+      → Walks (store_memory who) w old (blind n b s) replied new (blind n b t) × Leaves n s t × (new.machine.grants ≡ old.machine.grants)
+  walk w old new s t replied l d =
       let h = step_blind old.machine d.machine s t d.answer l d.step in (
-        record { goes = d.goes; answer = d.answer; machine = d.machine; step = h.0; told = d.told; changed = d.changed },
+        record { goes = d.goes; answer = d.answer; machine = d.machine; step = h.0; replied = d.replied; changed = d.changed },
         h.1,
         ap (λ (x : Debuggee). x.machine.grants) d.changed ∙ keeps (store_memory who) old.machine d.machine s t d.answer d.step,
       )
 
-  step : (w : Way) (old new : Debuggee) (s t : StoreState) (told : StepReply) → LacksGrant n old → AnswersStep (store_memory who) w old s told new t
-      → AnswersStep (store_memory who) w old (blind n b s) told new (blind n b t) × Leaves n s t × (new.machine.grants ≡ old.machine.grants)
+  step : (w : Way) (old new : Debuggee) (s t : StoreState) (replied : StepReply) → LacksGrant n old → AnswersStep (store_memory who) w old s replied new t
+      → AnswersStep (store_memory who) w old (blind n b s) replied new (blind n b t) × Leaves n s t × (new.machine.grants ≡ old.machine.grants)
   step w old new s t (step_reply.Paused slot) l h = (
     record { held = h.held; slot_is = h.slot_is; changed = h.changed; same = ap (blind n b) h.same },
     leaves_same n s t h.same,
     ap (λ (x : Debuggee). x.machine.grants) h.changed,
   )
-  step w old new s t told l h = walk w old new s t told l h
+  step w old new s t replied l h = walk w old new s t replied l h
 
   command : (c : MachineCommand) (old new : Debuggee) (s t : StoreState) (r : Reply) → LacksGrant n old → AnswersCommand (store_memory who) old s who c r new t
       → AnswersCommand (store_memory who) old (blind n b s) who c r new (blind n b t) × Leaves n s t × (new.machine.grants ≡ old.machine.grants)
@@ -179,7 +175,7 @@ machine : (n : ℕ) (b : List ℕ) (is_ours : ℕ → Bool) (who : ℕ) (c : Mac
     → AnswersMachine (store_memory who) old s who c r new t
     → AnswersMachine (store_memory who) old (blind n b s) who c r new (blind n b t) × Leaves n s t × LackingIn n is_ours new
 machine n b is_ours who c old new s t r o all (inl h) = (
-  inl (record { none = h.none; told = h.told; unchanged = h.unchanged; same = ap (blind n b) h.same }),
+  inl (record { none = h.none; replied = h.replied; unchanged = h.unchanged; same = ap (blind n b) h.same }),
   leaves_same n s t h.same,
   subst (LackingIn n is_ours) (sym h.unchanged) all,
 )
@@ -274,10 +270,10 @@ module _ (n : ℕ) (b : List ℕ) (k : ℕ) (h : k ≢ n) where
       → AnswersObject (with_other n b old) k c r (with_other n b new) × Leaves n old.store new.store × (new.machines ≡ old.machines)
   object Free old new r f g =
       let d = frees_blind n b k h old.store new.store g.moved f g.move in
-      (record { moved = g.moved; move = d.0; told = g.told; changed = ap (with_other n b) g.changed }, d.1, ap (λ (w : WorldState). w.machines) g.changed)
+      (record { moved = g.moved; move = d.0; replied = g.replied; changed = ap (with_other n b) g.changed }, d.1, ap (λ (w : WorldState). w.machines) g.changed)
   object (Move kind) old new r f g =
       let d = moves_blind n b k h kind old.store new.store g.moved f g.move in
-      (record { moved = g.moved; move = d.0; told = g.told; changed = ap (with_other n b) g.changed }, d.1, ap (λ (w : WorldState). w.machines) g.changed)
+      (record { moved = g.moved; move = d.0; replied = g.replied; changed = ap (with_other n b) g.changed }, d.1, ap (λ (w : WorldState). w.machines) g.changed)
   object (Put o c) old new r f g = let d = put o c old new r g in (d.0, d.1, put_machines r g)
     where
       put_machines : (r : Reply) → AnswersPut old k o c r new → new.machines ≡ old.machines

@@ -13,8 +13,8 @@ use Rattle.bpfagent_c.proofs.Reading.{over_as_many, stack_shows_nothing}
 use Rattle.bpfagent_c.proofs.debugging.bpfagent_stack.Goals as goal
 use Rattle.bpfagent_c.proofs.debugging.bpfagent_stack.Goals.{in-Ok, in-Err}
 
-pub returns-clause-told : goal.returns-clause-told
-returns-clause-told c =
+pub returns-clause-replied : goal.returns-clause-replied
+returns-clause-replied c =
     let same : c.deref.result.now ≡ c.args.agent.now.held.state = search rules in
     let live : c.args.agent.now.live ≡ true = search rules in
     let after : c.give.new.agent.held.state ≡ c.args.agent.now.held.state = search rules in

@@ -1,14 +1,14 @@
 use Rattle.std.proofs.Common.{Some, sym, ◌∙◌}
 use Rattle.world.specs.declared.world.moving.Move.TheVariants.{Returned}
 use Rattle.world.specs.declared.replies.Reply.TheVariants as reply
-use Rattle.bpfagent_c.proofs.Back.{told_back, back_done, back_damaged, back_lost}
+use Rattle.bpfagent_c.proofs.Back.{number_back, back_done, back_damaged, back_lost}
 use Rattle.bpfagent_c.proofs.handing.bpfagent_returned_from.Goals as goal
 
-pub returns-in-Some-clause-told : goal.returns-in-Some-clause-told
-returns-in-Some-clause-told c = (
+pub returns-in-Some-clause-replied : goal.returns-in-Some-clause-replied
+returns-in-Some-clause-replied c = (
   Some (reply.Moved c.args.object Returned c.in-Some.moved),
   c.in-Some.ensures.some,
-  told_back c.in-Some.moved _ c.code_of_back.ensures,
+  number_back c.in-Some.moved _ c.code_of_back.ensures,
 )
 
 pub returns-in-Some-clause-back : goal.returns-in-Some-clause-back

@@ -17,7 +17,7 @@ returns c =
       | in-Ok w ↦
           let shown : AnswersGet c.deref.result.now.store.state c.args.object c.args.offset (length c.args.bytes.now) (Bytes c.read.new.into) = search rules in
           record {
-            told = (
+            replied = (
               Some (Bytes c.read.new.into),
               (
                 live,
@@ -38,7 +38,7 @@ returns c =
           let refused : AnswersGet c.deref.result.now.store.state c.args.object c.args.offset (length c.args.bytes.now)
           (denied c.args.object w.in-Err.why) = search rules in
           record {
-            told = (
+            replied = (
               Some (denied c.args.object w.in-Err.why),
               (
                 live,

@@ -17,5 +17,5 @@ Commanded old c None new = HasNone old new
 Commanded old c (Some r) new = (old.live ≡ true) × (new.live ≡ true) × Answers (state_of old.held.state) c r (state_of new.held.state)
 
 -- It does the command, and its reply has this number.
-abbrev pub Told : Agent → Event → ℕ → Agent → Type 0
-Told old c number new = (given : Option Reply) × Commanded old c given new × (number ≡ code_of given)
+abbrev pub RepliesNumber : Agent → Event → ℕ → Agent → Type 0
+RepliesNumber old c number new = (given : Option Reply) × Commanded old c given new × (number ≡ code_of given)
