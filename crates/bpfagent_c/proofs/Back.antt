@@ -8,15 +8,15 @@ use Rattle.placement.specs.declared.places.Place.TheVariants as place
 use Rattle.bpfagent_c.specs.declared.numbers.TheConstants.{DAMAGED, FAULT_FAR, OK}
 use Rattle.bpfagent_c.specs.Codes.{code_of_back, code_of_moved}
 
-back_told : (m : Moved) → (code_of_back m ≡ code_of_moved place.Far m)
+number_of_back : (m : Moved) → (code_of_back m ≡ code_of_moved place.Far m)
     ⊎ ((code_of_back m ≡ DAMAGED) × (code_of_moved place.Far m ≡ FAULT_FAR))
-back_told m = grind arith
+number_of_back m = grind arith
 
 -- it is the number of the reply, or that the bytes are others
-pub told_back : (m : Moved) (number : ℕ) → number ≡ code_of_back m
+pub number_back : (m : Moved) (number : ℕ) → number ≡ code_of_back m
     → (number ≡ code_of_moved place.Far m)
     ⊎ ((number ≡ DAMAGED) × (code_of_moved place.Far m ≡ FAULT_FAR))
-told_back m number e = rw e (back_told m)
+number_back m number e = rw e (number_of_back m)
 
 pub back_damaged : (m : Moved) → code_of_back m ≡ DAMAGED → m ≡ moved.Fault Damaged
 back_damaged m e = grind arith
