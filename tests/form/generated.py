@@ -1,8 +1,8 @@
 #!/usr/bin/env python3
-"""Compares stored files with what their scripts write now: lists of tests, however they are laid out, and files that stand in several crates. The
-number of replies that `script_runner` tells is that of its scripts. The numbers of docs/performance.svg, of docs/SCALING.md and of its picture are
-those of the figures. With --vectors it also makes the long scripts of crates/script_runner again, by an interpreter of RFC 9669 of its own, and says
-whether the replies of the other scripts are those that it gives.
+"""Compares stored files with what their scripts write now: lists of tests, however they are laid out, answers for the rows of a run, and files that
+stand in several crates. The number of replies that `script_runner` tells is that of its scripts. The numbers of docs/performance.svg, of
+docs/SCALING.md and of its picture are those of the figures. With --vectors it also makes the long scripts of crates/script_runner again, by an
+interpreter of RFC 9669 of its own, and says whether the replies of the other scripts are those that it gives.
 """
 from __future__ import annotations
 
@@ -37,6 +37,7 @@ COPIED = "compared.rt"
 SECONDS = 1800
 TABLES = "crates/isa_table_tests"
 PLACES = "crates/bpf_codec/src/places.rt"
+ANSWERS = "crates/machine/proofs/processor/Processor/run_to/Answers.antt"
 RUNNER = "crates/script_runner"
 VECTORS = {name: f"{RUNNER}/data/{name}.script" for name in ("vectors", "moves_vectors", "grants_vectors")}
 
@@ -70,6 +71,12 @@ def differing_places() -> Iterator[str]:
     """The lines of the codec's tables that its script doesn't print."""
     source = (ROOT / PLACES).read_text()
     yield from (f"{PLACES} lacks {line}" for line in output(["crates/bpf_codec/make_places.py"]).split("\n") if line not in source)
+
+
+def differing_answers() -> Iterator[str]:
+    """The script prints the whole file, and the parts that it doesn't make as they are."""
+    if (ROOT / ANSWERS).read_text() != output(["crates/machine/make_answers.py"]):
+        yield f"{ANSWERS} isn't what crates/machine/make_answers.py --write makes of it"
 
 
 def differing_copies() -> Iterator[str]:
@@ -120,7 +127,7 @@ def differing_vectors() -> Iterator[str]:
 
 if __name__ == "__main__":
     has_vectors = sys.argv[1:] == ["--vectors"]
-    found = [*differing(), *differing_places(), *differing_copies(), *miscounted_replies(), *differing_pictures(), *unseen_changes()]
+    found = [*differing(), *differing_places(), *differing_answers(), *differing_copies(), *miscounted_replies(), *differing_pictures(), *unseen_changes()]
     found += differing_vectors() if has_vectors else []
     more = "; so are the long scripts; the replies of all scripts are those of the interpreter" if has_vectors else ""
-    report(found, f"lists of tests are what they are made from, and pictures show what was measured{more}")
+    report(found, f"lists of tests and of answers are what they are made from, and pictures show what was measured{more}")
