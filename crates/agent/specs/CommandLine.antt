@@ -132,16 +132,6 @@ bare = record {
   subs = [];
 }
 
--- the command line, as `clap` reads it
-abbrev pub command_line : App
-command_line = with_subcommand (with_subcommand (with_subcommand
-    (with_subcommand (with_subcommand (with_subcommand (with_subcommand bare run_shape) check_shape) asm_shape) dis_shape) store_shape) serve_shape)
-    commands_shape
-
--- the kinds of error that these arguments may give: none, where they are right
-abbrev pub faults_of : List Text → Kinds
-faults_of arguments = fault_of command_line arguments
-
 -- These matches have all numbers of `store`.
 pub record HasStoring (rows : List Row) : Type 0 where
   pub port : HasNumber 16 (codes "port") rows
@@ -210,15 +200,44 @@ serving_in rows = serving_of (is_given (codes "port") rows) (is_set (codes "swee
     (number_in (codes "connections") rows) (number_in (codes "workers") rows) (number_in (codes "budget") rows) (number_in (codes "keep") rows)
     (number_in (codes "far-timeout") rows)
 
+-- A subcommand: its name and its options, and what its matches ask for.
+pub record Subcommand : Type 0 where
+  pub shape : Shape
+  pub task : List Row → Option Task
+
+-- the subcommands, in the order in which help lists them
+abbrev pub subcommands : List Subcommand
+subcommands =
+    record { shape = run_shape; task = λ rows. option_map Run (number_in (codes "budget") rows) }
+    ∷ record { shape = check_shape; task = λ rows. Some (Check (is_set (codes "explain") rows)) }
+    ∷ record { shape = asm_shape; task = λ rows. Some (Assemble (is_set (codes "explain") rows)) }
+    ∷ record { shape = dis_shape; task = λ rows. Some (Disassemble (showing_in rows)) }
+    ∷ record { shape = store_shape; task = λ rows. option_map Store (storing_in rows) }
+    ∷ record { shape = serve_shape; task = λ rows. option_map Serve (serving_in rows) }
+    ∷ record { shape = commands_shape; task = λ rows. Some Commands }
+    ∷ []
+
+-- a command line with these subcommands too
+abbrev pub with_subcommands : App → List Subcommand → App
+with_subcommands app [] = app
+with_subcommands app (s ∷ more) = with_subcommands (with_subcommand app s.shape) more
+
+-- the command line, as `clap` reads it
+abbrev pub command_line : App
+command_line = with_subcommands bare subcommands
+
+-- the kinds of error that these arguments may give: none, where they are right
+abbrev pub faults_of : List Text → Kinds
+faults_of arguments = fault_of command_line arguments
+
+-- what the one of this name asks for, with these matches
+abbrev pub task_among : List Subcommand → Text → List Row → Option Task
+task_among [] name rows = None
+task_among (s ∷ more) name rows = if bytes_eq name s.shape.name then s.task rows else (task_among more name rows)
+
 -- the task of this name, with these matches
 abbrev pub task_named : Text → List Row → Option Task
-task_named name rows = if bytes_eq name (codes "run") then option_map Run (number_in (codes "budget") rows)
-    else (if bytes_eq name (codes "check") then Some (Check (is_set (codes "explain") rows))
-    else (if bytes_eq name (codes "asm") then Some (Assemble (is_set (codes "explain") rows))
-    else (if bytes_eq name (codes "dis") then Some (Disassemble (showing_in rows))
-    else (if bytes_eq name (codes "store") then option_map Store (storing_in rows)
-    else (if bytes_eq name (codes "serve") then option_map Serve (serving_in rows)
-    else (if bytes_eq name (codes "commands") then Some Commands else None))))))
+task_named name rows = task_among subcommands name rows
 
 -- what right arguments ask for: the subcommand that they name
 abbrev pub task_of : List Text → Option Task
