@@ -166,7 +166,8 @@ def within(seconds: float, is_so: Callable[[], bool]) -> bool:
 @contextlib.contextmanager
 def probing(front: Front) -> Iterator[None]:
     """Connects, says nothing and goes: at once, and then every 10 ms."""
-    done, wrong = threading.Event(), []
+    done = threading.Event()
+    wrong: list[OSError] = []
 
     def probe() -> None:
         while True:
