@@ -11,6 +11,7 @@ import argparse
 import contextlib
 import os
 import pathlib
+import select
 import shutil
 import socket
 import sys
@@ -160,18 +161,30 @@ def completer(names: Sequence[str], line: Callable[[], str]) -> Callable[[str, i
 def let_through(stream: socket.socket) -> None:
     """Copies standard input to a service, and its replies to standard output, until both have ended."""
     stream.settimeout(None)
-    threading.Thread(target=copied_in, args=(stream,), daemon=True).start()
-    while piece := stream.recv(PIECE):
-        sys.stdout.buffer.write(piece)
-        sys.stdout.buffer.flush()
+    ending, woken = socket.socketpair()
+    with ending, woken:
+        copying = threading.Thread(target=copied_in, args=(stream, woken), daemon=True)
+        copying.start()
+        try:
+            while piece := stream.recv(PIECE):
+                sys.stdout.buffer.write(piece)
+                sys.stdout.buffer.flush()
+        finally:
+            # The thread ends here. One that wakes while Python ends may crash it.
+            with contextlib.suppress(OSError):
+                stream.shutdown(socket.SHUT_RDWR)
+            ending.close()
+            copying.join()
 
 
-def copied_in(stream: socket.socket) -> None:
-    """Sends what comes on standard input, and then its end."""
+def copied_in(stream: socket.socket, woken: socket.socket) -> None:
+    """Sends what comes on standard input, and then its end; until it is woken."""
     with contextlib.suppress(OSError):
-        while piece := os.read(0, PIECE):
+        while woken not in select.select([0, woken], [], [])[0]:
+            if not (piece := os.read(0, PIECE)):
+                stream.shutdown(socket.SHUT_WR)
+                return
             stream.sendall(piece)
-        stream.shutdown(socket.SHUT_WR)
 
 
 def become(program: str, *arguments: str) -> NoReturn:
