@@ -15,7 +15,6 @@ import select
 import shutil
 import socket
 import sys
-import threading
 from typing import Callable, Iterator, NoReturn, Optional, Sequence
 
 from . import __version__
@@ -159,32 +158,39 @@ def completer(names: Sequence[str], line: Callable[[], str]) -> Callable[[str, i
 
 
 def let_through(stream: socket.socket) -> None:
-    """Copies standard input to a service, and its replies to standard output, until both have ended."""
-    stream.settimeout(None)
-    ending, woken = socket.socketpair()
-    with ending, woken:
-        copying = threading.Thread(target=copied_in, args=(stream, woken), daemon=True)
-        copying.start()
-        try:
-            while piece := stream.recv(PIECE):
-                sys.stdout.buffer.write(piece)
-                sys.stdout.buffer.flush()
-        finally:
-            # The thread ends here. One that wakes while Python ends may crash it.
-            with contextlib.suppress(OSError):
-                stream.shutdown(socket.SHUT_RDWR)
-            ending.close()
-            copying.join()
-
-
-def copied_in(stream: socket.socket, woken: socket.socket) -> None:
-    """Sends what comes on standard input, and then its end; until it is woken."""
-    with contextlib.suppress(OSError):
-        while woken not in select.select([0, woken], [], [])[0]:
-            if not (piece := os.read(0, PIECE)):
-                stream.shutdown(socket.SHUT_WR)
+    """Copies standard input to a service, and its replies to standard output, until both have ended. No thread, which could crash Python at its end."""
+    stream.setblocking(False)
+    unsent: Optional[bytes] = b""
+    while True:
+        ready, free, _ = select.select([stream, 0] if unsent == b"" else [stream], [stream] if unsent else [], [])
+        if stream in ready:
+            if not (piece := stream.recv(PIECE)):
                 return
-            stream.sendall(piece)
+            sys.stdout.buffer.write(piece)
+            sys.stdout.buffer.flush()
+        if unsent and free:
+            unsent = left_of(stream, unsent)
+        elif 0 in ready:
+            unsent = taken_in(stream)
+
+
+def taken_in(stream: socket.socket) -> Optional[bytes]:
+    """The next bytes of standard input. At its end, which is sent on, there are none."""
+    with contextlib.suppress(OSError):
+        if piece := os.read(0, PIECE):
+            return piece
+        stream.shutdown(socket.SHUT_WR)
+    return None
+
+
+def left_of(stream: socket.socket, unsent: bytes) -> Optional[bytes]:
+    """Sends some of these bytes, and gives the others. There are none where the service takes no more."""
+    try:
+        return unsent[stream.send(unsent) :]
+    except BlockingIOError:
+        return unsent
+    except OSError:
+        return None
 
 
 def become(program: str, *arguments: str) -> NoReturn:
