@@ -8,13 +8,13 @@ import re
 import shutil
 import subprocess
 import tempfile
-import threading
 import time
 from collections import deque
 from types import TracebackType
 from typing import TYPE_CHECKING, Mapping, Optional, Sequence, TypeVar, Union
 
 from .agent import Agent, PathLike, started, wait_or_end
+from .hearing import Hearing
 from .image import Image, load
 from .limits import WORD
 from .replies import Broken
@@ -68,9 +68,7 @@ class Service:
         except BaseException:
             self._remove_folder()
             raise
-        self._hearing = threading.Thread(target=self._hear, daemon=True)
-        if is_heard:
-            self._hearing.start()
+        self._hearing = Hearing(self._process.stderr, self.told) if self._process.stderr else None
         self._pipes = Pipes(self._process)
         self._rest = b""
         self._unused = connections_of(arguments)
@@ -115,17 +113,10 @@ class Service:
             self.port, self.place = int(found[1]), f"{HOST}:{found[1]}"
         return self.place
 
-    def _hear(self) -> None:
-        """Keeps what the service tells until its end. If nobody read it, the service would wait."""
-        assert self._process.stderr
-        with self._process.stderr as raw, open(raw.fileno(), "rb", closefd=False) as errors:
-            for line in errors:
-                self.told.append(line.decode("utf-8", "backslashreplace").rstrip("\n"))
-
     def _why(self) -> str:
         """The reason that the service told last; empty if it told none."""
-        if self._hearing.is_alive():
-            self._hearing.join(GRACE)
+        if self._hearing:
+            self._hearing.wait(GRACE)
         return reason_of(self.told)
 
     def _instead(self, line: bytes) -> str:
@@ -241,6 +232,8 @@ class Service:
         self._pipes.close()
         wait_or_end(self._process, GRACE)
         self._remove_folder()
+        if self._hearing:
+            self._hearing.close(GRACE)
 
     def _remove_folder(self) -> None:
         """Removes the private folder, and what a service that was killed left in it."""

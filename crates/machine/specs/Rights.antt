@@ -27,6 +27,14 @@ full_of right = replicate 1025 right
 abbrev pub IsTableOf : GrantState → List Right → Type 0
 IsTableOf g table = (n : ℕ) → n ≤ object_limit → (writes : Bool) → suffices (get_or table n Nothing) writes ≡ is_granted g writes n
 
+-- By the table each object up to that number may be read and written.
+abbrev pub IsOpenTable : List Right → ℕ → Type 0
+IsOpenTable table last = (n : ℕ) → n ≤ last → (writes : Bool) → suffices (get_or table n Nothing) writes ≡ true
+
+-- Each object up to that number may be read and written.
+abbrev pub IsOpen : GrantState → ℕ → Type 0
+IsOpen g last = (last ≤ object_limit) × ((n : ℕ) → n ≤ last → (writes : Bool) → is_granted g writes n ≡ true)
+
 -- The new table allows what the old one allowed, and what the grant allows, and no more.
 abbrev pub HasMore : List Right → Grant → List Right → Type 0
 HasMore old g new = (n : ℕ) → n ≤ object_limit → (writes : Bool)

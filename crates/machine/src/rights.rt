@@ -1,8 +1,8 @@
 //! What a machine may do with an object, looked up by the object's number.
-ghost use Rattle.std.specs.Prelude.{◌≡◌, ◌≤◌, ℕ, Bool, get_or, ◌||◌};
+ghost use Rattle.std.specs.Prelude.{◌≡◌, ◌≤◌, ℕ, Bool, true, get_or, ◌||◌};
 ghost use Rattle.memory.specs.Objects.{object_limit};
 ghost use Rattle.machine.specs.Grants.{GrantState, is_granted, is_listed};
-ghost use Rattle.machine.specs.Rights.{suffices, joined, full_of, IsTableOf, HasMore};
+ghost use Rattle.machine.specs.Rights.{suffices, joined, full_of, IsOpen, IsTableOf, HasMore};
 ghost use Rattle.machine.specs.declared.rights.Right.TheVariants.{Nothing};
 
 use crate::grants::{Grant, Grants};
@@ -24,22 +24,24 @@ pub(crate) enum Right {
 type Table = [Right; NUMBERS];
 
 /// The grants of a machine, and what they come to for each number: they are read once, so that an access looks at one
-/// byte. Takes no memory.
+/// byte, and at none where all objects are granted. Takes no memory.
 #[derive(Drop)]
 pub(crate) struct Rights {
     grants: Grants,
+    // up to this number each object may be read and written
+    open_to: u32,
     table: Table,
 }
 
 impl Model for Rights {
     ghost use Rattle.machine.specs.Grants.{GrantState};
-    ghost use Rattle.machine.specs.Rights.{IsTableOf};
+    ghost use Rattle.machine.specs.Rights.{IsOpen, IsTableOf};
 
     ghost Value = { GrantState };
 
     ghost view = { λ r. r.grants };
 
-    ghost invariant = { λ r. IsTableOf r.grants r.table };
+    ghost invariant = { λ r. IsTableOf r.grants r.table × IsOpen r.grants r.open_to };
 }
 
 impl Right {
@@ -75,7 +77,12 @@ impl Rights {
         ensures { result ≡ grants }
     {
         let table = table_of(&grants);
-        Rights { grants, table }
+        let open_to = last_open(&grants, &table);
+        Rights {
+            grants,
+            open_to,
+            table,
+        }
     }
 
     pub(crate) fn grants(&self) -> &Grants
@@ -95,7 +102,15 @@ impl Rights {
         self.allow_object(number as usize, writes)
     }
 
-    /// The same of a number that an object may have.
+    /// Whether the number is one of those from 0 on whose objects may all be read and written: no table is needed for it.
+    #[inline(always)]
+    pub(crate) fn is_open(&self, number: u32) -> bool
+        ensures { result ≡ true → (number ≤ object_limit) × ((writes : Bool) → is_granted self.now writes number ≡ true) }
+    {
+        number <= self.open_to
+    }
+
+    /// Whether the object of a number that an object may have may be read, or written too.
     #[inline(always)]
     pub(crate) fn allow_object(&self, number: usize, writes: bool) -> bool
         requires { number ≤ object_limit }
@@ -103,6 +118,21 @@ impl Rights {
     {
         self.table[number].suffices(writes)
     }
+}
+
+/// The number up to which each object may be read and written.
+fn last_open(grants: &Grants, table: &Table) -> u32
+    requires { IsTableOf grants.now table.now }
+    ensures { IsOpen grants.now result }
+{
+    if grants.is_all() {
+        return OBJECT_LIMIT as u32;
+    }
+    let mut last = 0;
+    while last < OBJECT_LIMIT && table[last + 1].suffices(true) {
+        last += 1;
+    }
+    last as u32
 }
 
 /// The same right to each number.

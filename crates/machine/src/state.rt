@@ -1,8 +1,9 @@
 //! Parts of a machine that others see.
-ghost use Rattle.std.specs.Prelude.{◌≡◌, ◌≢◌, ◌<◌, ◌≤◌, length, IfSome, IfNone};
+ghost use Rattle.std.specs.Prelude.{◌≡◌, ◌≢◌, ◌<◌, ◌≤◌, ℕ, Some, length, IfSome, IfNone};
 ghost use Rattle.machine.specs.Points.{fuel_after};
 ghost use Rattle.machine.specs.Stops.{stop_name, stop_number};
 ghost use Rattle.machine.specs.declared.state.Stop.{Stop};
+ghost use Rattle.machine.specs.declared.state.Stop.TheVariants as stop;
 
 use isa_table::Size;
 use memory::Op;
@@ -84,6 +85,7 @@ impl Stop {
     pub fn numbered(number: u32) -> Option<Self>
         ensures some { IfSome result (λ stop. stop_number stop ≡ number) }
         ensures none { IfNone result ((stop : Stop) → stop_number stop ≢ number) }
+        ensures exit { (value : ℕ) → result ≡ Some (stop.Exit value) → value ≡ 0 }
     {
         match number {
             1 => Some(Stop::Exit(0)),

@@ -5,10 +5,11 @@ import contextlib
 import os
 import signal
 import threading
-import time
 from typing import Iterator
 
 SIGNALS = (signal.SIGTERM, signal.SIGHUP)
+# Those that may raise an exception in the main thread, which mustn't come between the thread and its end.
+RAISING = (*SIGNALS, signal.SIGINT)
 # How long a signal may wait for the main thread until it is sent again, in seconds.
 NUDGE = 0.1
 
@@ -19,24 +20,42 @@ class Ending:
     def __init__(self) -> None:
         self._is_open = self._is_nudged = False
         self._came: list[int] = []
+        self._is_over = threading.Event()
 
-    def listen(self) -> None:
-        """Hears the signals from now on, except those that are ignored."""
+    @contextlib.contextmanager
+    def listen(self) -> Iterator[None]:
+        """Hears the signals from now on, except those that are ignored. The thread ends with the block: if it woke while Python ends, it could
+        crash it."""
         woken, wakes = os.pipe()
         os.set_blocking(wakes, False)
-        signal.set_wakeup_fd(wakes, warn_on_full_buffer=False)
-        threading.Thread(target=self._nudge, args=(woken,), daemon=True).start()
-        for number in SIGNALS:
-            if signal.getsignal(number) == signal.SIG_DFL:
-                signal.signal(number, self._note)
+        thread = threading.Thread(target=self._nudge, args=(woken,))
+        # The thread keeps this mask, so the signals come to the main thread.
+        mask = signal.pthread_sigmask(signal.SIG_BLOCK, RAISING)
+        thread.start()
+        try:
+            signal.set_wakeup_fd(wakes, warn_on_full_buffer=False)
+            for number in SIGNALS:
+                if signal.getsignal(number) == signal.SIG_DFL:
+                    signal.signal(number, self._note)
+            signal.pthread_sigmask(signal.SIG_SETMASK, mask)
+            yield
+        finally:
+            try:
+                signal.pthread_sigmask(signal.SIG_BLOCK, RAISING)
+            finally:
+                signal.set_wakeup_fd(-1)
+                self._is_over.set()
+                os.close(wakes)
+                thread.join()
+                os.close(woken)
+                signal.pthread_sigmask(signal.SIG_SETMASK, mask)
 
     def _nudge(self, woken: int) -> None:
         """Sends a signal again that came just before the main thread began to wait for input: it would sleep until a key is pressed."""
         main = threading.main_thread().ident
         while numbers := os.read(woken, 64):
             for number in set(numbers).intersection(SIGNALS):
-                time.sleep(NUDGE)
-                if main and not self._came:
+                if not self._is_over.wait(NUDGE) and main and not self._came:
                     self._is_nudged = True
                     signal.pthread_kill(main, number)
 

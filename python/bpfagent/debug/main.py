@@ -83,21 +83,21 @@ def debug(given: argparse.Namespace) -> None:
     from . import dap, terminal
 
     ending = Ending()
-    ending.listen()
-    if given.dap:
-        dap.serve(ending)
-        return
-    workers = WORKERS if given.workers is None else given.workers
-    plan = Plan(
-        given.file, given.arguments, given.bpfagent, given.fuel, given.entry, given.flag, given.serve, workers, given.machines, given.connect, given.others
-    )
-    plan.setup = given.setup
-    with Session(plan, ending.check) as session:
-        try:
-            terminal.run(session.engine, given.execute, ending)
-        except Broken:
-            ending.check()
-            raise
+    with ending.listen():
+        if given.dap:
+            dap.serve(ending)
+            return
+        workers = WORKERS if given.workers is None else given.workers
+        plan = Plan(
+            given.file, given.arguments, given.bpfagent, given.fuel, given.entry, given.flag, given.serve, workers, given.machines, given.connect, given.others
+        )
+        plan.setup = given.setup
+        with Session(plan, ending.check) as session:
+            try:
+                terminal.run(session.engine, given.execute, ending)
+            except Broken:
+                ending.check()
+                raise
 
 
 def main(words: Optional[Sequence[str]] = None) -> None:
