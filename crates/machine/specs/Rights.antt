@@ -35,6 +35,10 @@ IsOpenTable table last = (n : ℕ) → n ≤ last → (writes : Bool) → suffic
 abbrev pub IsOpen : GrantState → ℕ → Type 0
 IsOpen g last = (last ≤ object_limit) × ((n : ℕ) → n ≤ last → (writes : Bool) → is_granted g writes n ≡ true)
 
+-- That is the greatest such number.
+abbrev pub IsLastOpen : GrantState → ℕ → Type 0
+IsLastOpen g last = IsOpen g last × ((n : ℕ) → IsOpen g n → n ≤ last)
+
 -- The new table allows what the old one allowed, and what the grant allows, and no more.
 abbrev pub HasMore : List Right → Grant → List Right → Type 0
 HasMore old g new = (n : ℕ) → n ≤ object_limit → (writes : Bool)

@@ -2,7 +2,7 @@
 ghost use Rattle.std.specs.Prelude.{◌≡◌, ◌≤◌, ℕ, Bool, true, get_or, ◌||◌};
 ghost use Rattle.memory.specs.Objects.{object_limit};
 ghost use Rattle.machine.specs.Grants.{GrantState, is_granted, is_listed};
-ghost use Rattle.machine.specs.Rights.{suffices, joined, full_of, IsOpen, IsTableOf, HasMore};
+ghost use Rattle.machine.specs.Rights.{suffices, joined, full_of, IsOpen, IsLastOpen, IsTableOf, HasMore};
 ghost use Rattle.machine.specs.declared.rights.Right.TheVariants.{Nothing};
 
 use crate::grants::{Grant, Grants};
@@ -28,20 +28,20 @@ type Table = [Right; NUMBERS];
 #[derive(Drop)]
 pub(crate) struct Rights {
     grants: Grants,
-    // up to this number each object may be read and written
+    // the greatest number up to which each object may be read and written
     open_to: u32,
     table: Table,
 }
 
 impl Model for Rights {
     ghost use Rattle.machine.specs.Grants.{GrantState};
-    ghost use Rattle.machine.specs.Rights.{IsOpen, IsTableOf};
+    ghost use Rattle.machine.specs.Rights.{IsLastOpen, IsTableOf};
 
     ghost Value = { GrantState };
 
     ghost view = { λ r. r.grants };
 
-    ghost invariant = { λ r. IsTableOf r.grants r.table × IsOpen r.grants r.open_to };
+    ghost invariant = { λ r. IsTableOf r.grants r.table × IsLastOpen r.grants r.open_to };
 }
 
 impl Right {
@@ -102,10 +102,11 @@ impl Rights {
         self.allow_object(number as usize, writes)
     }
 
-    /// Whether the number is one of those from 0 on whose objects may all be read and written: no table is needed for it.
+    /// Whether each object up to that number may be read and written: no table is needed for it.
     #[inline(always)]
     pub(crate) fn is_open(&self, number: u32) -> bool
-        ensures { result ≡ true → (number ≤ object_limit) × ((writes : Bool) → is_granted self.now writes number ≡ true) }
+        ensures open { result ≡ true → IsOpen self.now number }
+        ensures closed { IsOpen self.now number → result ≡ true }
     {
         number <= self.open_to
     }
@@ -120,10 +121,10 @@ impl Rights {
     }
 }
 
-/// The number up to which each object may be read and written.
+/// The greatest number up to which each object may be read and written.
 fn last_open(grants: &Grants, table: &Table) -> u32
     requires { IsTableOf grants.now table.now }
-    ensures { IsOpen grants.now result }
+    ensures { IsLastOpen grants.now result }
 {
     if grants.is_all() {
         return OBJECT_LIMIT as u32;
