@@ -34,7 +34,7 @@ plain_is : (a b : Reply) → Plain a ≡ Plain b → b ≡ a
 plain_is a b e = cc
 
 pub opened_machines_stay : (opening : List (List ℕ)) (starts : List MachineState) (passed : Passage → Bool) → OpenedMachinesStay opening starts passed
-opened_machines_stay opening starts passed old new m c start low high there (inl h) = h.none (low, high)
+opened_machines_stay opening starts passed old new m c start low high there (inl h) = h.0 (low, high)
 opened_machines_stay opening starts passed old new m c start low high there (inr h) =
     lent_tells opening starts old h.answered m c h.before h.left start h.holds.before_is.fits there
     (subst (λ r. AnswersLent c old h.before m r h.answered h.left) (plain_is answer.Missing h.said h.reply_is) h.answers)

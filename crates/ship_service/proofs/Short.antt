@@ -11,14 +11,13 @@ use Rattle.shared_objects.specs.declared.errors.GetError.TheVariants as get_erro
 use Rattle.machine.specs.MachineState.{MachineState}
 use Rattle.debugger.specs.declared.commands.MachineCommand.{MachineCommand}
 use Rattle.debugger.specs.declared.commands.MachineCommand.TheVariants.{Step, Show, Debug}
-use Rattle.debugger.specs.declared.replies.ShowReply.{ShowReply}
 use Rattle.workers.specs.Cells.{SeatState, CellState}
 use Rattle.workers.specs.TableNames.{Passage}
 use Rattle.world.specs.declared.events.Event.{Event}
 use Rattle.world.specs.declared.events.Event.TheVariants as event
 use Rattle.world.specs.declared.events.ObjectCommand.{ObjectCommand}
 use Rattle.world.specs.declared.events.ObjectCommand.TheVariants as object
-use Rattle.world.specs.declared.world.moving.Move.{Move}
+use Rattle.world.specs.declared.world.moving.Move.TheVariants as move
 use Rattle.world.specs.declared.replies.Reply.{Reply}
 use Rattle.world.specs.declared.replies.Reply.TheVariants as answer
 use Rattle.console.specs.Replies.{IsShort}
@@ -27,9 +26,9 @@ use Rattle.console.proofs.CommandReading.{AsksShort, show_short}
 use Rattle.ship_service.specs.declared.replies.ServiceReply.{ServiceReply}
 use Rattle.ship_service.specs.declared.replies.ServiceReply.TheVariants.{Plain}
 use Rattle.ship_service.specs.Replies.{IsShortReply}
-use Rattle.ship_service.specs.Ranges.{reply_to_denied, reply_to_put, reply_to_get, GetsOnce}
+use Rattle.ship_service.specs.Ranges.{reply_to_denied, reply_to_put, reply_to_get, GetsOnce, AsksMover}
 use Rattle.ship_service.specs.Lent.{AnswersCell, AnswersLent, ShipsCell, informed}
-use Rattle.ship_service.specs.Served.{Serves, ServesMove, ServesObject, ServesMachine, ServesShip}
+use Rattle.ship_service.specs.Served.{Serves, ServesObject, ServesMachine, ServesShip}
 use Rattle.debugger.specs.declared.start.Start.{Start}
 
 denied_short : (n : ℕ) (why : Denied) → IsShortReply (reply_to_denied n why)
@@ -53,26 +52,22 @@ get_short old new n offset size (Ok bytes) h short =
 get_short old new n offset size (Err (get_error.Denied why)) h short = denied_short n why
 get_short old new n offset size (Err get_error.Memory) h short = tt
 
-get_tells_short : (old new : SeatState) (n offset size : ℕ) (reply : ServiceReply) → GetsOnce old n offset size reply new → size ≤ range_limit → IsShortReply reply
+get_tells_short : (old new : SeatState) (n offset size : ℕ) (reply : ServiceReply) → GetsOnce n offset size old reply new → size ≤ range_limit → IsShortReply reply
 get_tells_short old new n offset size reply h short = subst IsShortReply (sym h.reply_is) (get_short old new n offset size h.outcome h.gets short)
 
-no_bytes : (opening : List (List ℕ)) (n : ℕ) (m : Move) (b : List ℕ) → ServesMove opening n m (Plain (answer.Bytes b)) → ⊥
-no_bytes opening n m b h = grind arith
-
-no_show : (opening : List (List ℕ)) (n : ℕ) (m : Move) (k : ℕ) (s : ShowReply) → ServesMove opening n m (Plain (answer.Shown k s)) → ⊥
-no_show opening n m k s h = grind arith
-
-move_short : (opening : List (List ℕ)) (n : ℕ) (m : Move) (reply : ServiceReply) → ServesMove opening n m reply → IsShortReply reply
-move_short opening n m (Plain (answer.Bytes b)) h = absurd (no_bytes opening n m b h)
-move_short opening n m (Plain (answer.Shown k s)) h = absurd (no_show opening n m k s h)
-move_short opening n m _ h = tt
+asked_short : (opening : List (List ℕ)) (n : ℕ) (reply : ServiceReply) → AsksMover opening n reply → IsShortReply reply
+asked_short opening n (Plain (answer.Bytes b)) h = absurd h
+asked_short opening n (Plain (answer.Shown k s)) h = absurd h
+asked_short opening n _ h = tt
 
 object_short : (old new : SeatState) (n : ℕ) (c : ObjectCommand) (reply : ServiceReply) → ServesObject old n c reply new
     → AsksShort (event.Object n c) → IsShortReply reply
 object_short old new n (object.Put offset bytes) reply h short = subst IsShortReply (sym h.last.reply_is) (put_short n h.last.outcome)
 object_short old new n (object.Get offset size) reply h short = get_tells_short h.mid new n offset size reply h.last short
 object_short old new n object.Free reply h short = subst IsShortReply (sym h.0) tt
-object_short old new n (object.Move m) reply h short = move_short old.view.opening n m reply h.0
+object_short old new n (object.Move move.Leave) reply h short = asked_short old.view.opening n reply h.0
+object_short old new n (object.Move move.Return) reply h short = asked_short old.view.opening n reply h.0
+object_short old new n (object.Move m) reply h short = subst IsShortReply (sym h.0) tt
 
 cell_short : (before after : CellState) (m : ℕ) (c : MachineCommand) (reply : Reply) → AnswersCell c before m reply after
     → AsksShort (event.Machine m c) → IsShort reply
@@ -88,7 +83,7 @@ lent_short old new before after m c reply (inr h) short = cell_short (informed c
 machine_short : (opening : List (List ℕ)) (starts : List MachineState) (passed : Passage → Bool) (old new : SeatState) (m : ℕ) (c : MachineCommand)
     (reply : ServiceReply)
     → ServesMachine opening starts passed old m c reply new → AsksShort (event.Machine m c) → IsShortReply reply
-machine_short opening starts passed old new m c reply (inl h) short = subst IsShortReply (sym h.reply_is) tt
+machine_short opening starts passed old new m c reply (inl h) short = subst IsShortReply (sym h.1) tt
 machine_short opening starts passed old new m c reply (inr h) short =
     subst IsShortReply (sym h.reply_is) (lent_short old h.answered h.before h.left m c h.said h.answers short)
 
@@ -99,7 +94,7 @@ shipped_short start code before after _ h = tt
 
 ship_short : (opening : List (List ℕ)) (starts : List MachineState) (passed : Passage → Bool) (start : Start) (code : List ℕ) (reply : ServiceReply)
     → ServesShip opening starts passed start code reply → IsShortReply reply
-ship_short opening starts passed start code reply (inl h) = subst IsShortReply (sym h.reply_is) tt
+ship_short opening starts passed start code reply (inl h) = subst IsShortReply (sym h.1) tt
 ship_short opening starts passed start code reply (inr h) = subst IsShortReply (sym h.reply_is) (shipped_short start code h.before h.after h.said h.ships)
 
 -- a reply fits its line

@@ -25,10 +25,11 @@ use Rattle.world.specs.declared.events.Event.{Event}
 use Rattle.world.specs.declared.events.Event.TheVariants as event
 use Rattle.world.specs.declared.events.ObjectCommand.{ObjectCommand}
 use Rattle.world.specs.declared.events.ObjectCommand.TheVariants as object
+use Rattle.world.specs.declared.world.moving.Move.TheVariants as move
 use Rattle.console.specs.Conversations.{turn_commands, turn_replies}
 use Rattle.ship_service.specs.declared.replies.ServiceReply.{ServiceReply}
 use Rattle.ship_service.specs.declared.replies.ServiceReply.TheVariants.{Busy}
-use Rattle.ship_service.specs.Ranges.{reply_to_put, reply_to_get, PutsOnce, GetsOnce, FoundBusy, ServesPut, ServesGet}
+use Rattle.ship_service.specs.Ranges.{reply_to_put, reply_to_get, PutsOnce, GetsOnce, FoundBusy, InTries}
 use Rattle.ship_service.specs.Lent.{AnswersLent, resumes}
 use Rattle.ship_service.specs.Served.{GoesOn, Serves, ServesObject, ServesMachine, ServesTurn, TakesTurns, service}
 use Rattle.ship_service.specs.Telling.{added, RiseTo, TellsEntries, RepliesAreEntries, ReplyIsEntry}
@@ -86,12 +87,12 @@ get_adds old new n offset size (Err (get_error.Denied denied.Busy)) h = unmoved 
 get_adds old new n offset size (Err (get_error.Denied denied.Worn)) h = unmoved old new _ h.1 h.2.2 refl refl
 get_adds old new n offset size (Err get_error.Memory) h = unmoved old new _ h.1 h.2 refl refl
 
-put_once_tells : (old new : SeatState) (n offset : ℕ) (bytes : List ℕ) (reply : ServiceReply) → PutsOnce old n offset bytes reply new
+put_once_tells : (old new : SeatState) (n offset : ℕ) (bytes : List ℕ) (reply : ServiceReply) → PutsOnce n offset bytes old reply new
     → Tells old (added (event.Object n (object.Put offset bytes)) reply) new
 put_once_tells old new n offset bytes reply h =
     subst (λ r. Tells old (added (event.Object n (object.Put offset bytes)) r) new) (sym h.reply_is) (put_adds old new n offset bytes h.outcome h.puts)
 
-get_once_tells : (old new : SeatState) (n offset size : ℕ) (reply : ServiceReply) → GetsOnce old n offset size reply new
+get_once_tells : (old new : SeatState) (n offset size : ℕ) (reply : ServiceReply) → GetsOnce n offset size old reply new
     → Tells old (added (event.Object n (object.Get offset size)) reply) new
 get_once_tells old new n offset size reply h =
     subst (λ r. Tells old (added (event.Object n (object.Get offset size)) r) new) (sym h.reply_is) (get_adds old new n offset size h.outcome h.gets)
@@ -122,16 +123,16 @@ busy_tells : (once : SeatState → ServiceReply → SeatState → Type 0) (n : �
 busy_tells once n adds zero old new h = same old new h
 busy_tells once n adds (suc k) old new h = after old h.0 new [] (busy_tells once n adds k old h.0 h.1) (adds h.0 new h.2)
 
-put_tells : (old new : SeatState) (n offset : ℕ) (bytes : List ℕ) (reply : ServiceReply) → ServesPut old n offset bytes reply new
+put_tells : (old new : SeatState) (n offset : ℕ) (bytes : List ℕ) (reply : ServiceReply) → InTries (PutsOnce n offset bytes) n old reply new
     → Tells old (added (event.Object n (object.Put offset bytes)) reply) new
 put_tells old new n offset bytes reply h = after old h.mid new (added (event.Object n (object.Put offset bytes)) reply)
-    (busy_tells (λ s r t. PutsOnce s n offset bytes r t) n (λ s t b. put_once_tells s t n offset bytes (Busy n) b) h.tries old h.mid h.busy)
+    (busy_tells (PutsOnce n offset bytes) n (λ s t b. put_once_tells s t n offset bytes (Busy n) b) h.tries old h.mid h.busy)
     (put_once_tells h.mid new n offset bytes reply h.last)
 
-get_tells : (old new : SeatState) (n offset size : ℕ) (reply : ServiceReply) → ServesGet old n offset size reply new
+get_tells : (old new : SeatState) (n offset size : ℕ) (reply : ServiceReply) → InTries (GetsOnce n offset size) n old reply new
     → Tells old (added (event.Object n (object.Get offset size)) reply) new
 get_tells old new n offset size reply h = after old h.mid new (added (event.Object n (object.Get offset size)) reply)
-    (busy_tells (λ s r t. GetsOnce s n offset size r t) n (λ s t b. get_once_tells s t n offset size (Busy n) b) h.tries old h.mid h.busy)
+    (busy_tells (GetsOnce n offset size) n (λ s t b. get_once_tells s t n offset size (Busy n) b) h.tries old h.mid h.busy)
     (get_once_tells h.mid new n offset size reply h.last)
 
 -- ---- commands
@@ -141,6 +142,8 @@ object_tells : (old new : SeatState) (n : ℕ) (c : ObjectCommand) (reply : Serv
 object_tells old new n (object.Put offset bytes) reply h = put_tells old new n offset bytes reply h
 object_tells old new n (object.Get offset size) reply h = get_tells old new n offset size reply h
 object_tells old new n object.Free reply h = same old new h.1
+object_tells old new n (object.Move move.Leave) reply h = same old new h.1
+object_tells old new n (object.Move move.Return) reply h = same old new h.1
 object_tells old new n (object.Move m) reply h = same old new h.1
 
 -- a machine's turns add nothing to the connection's seat
@@ -153,7 +156,7 @@ turns_tell opening starts passed m (suc n) old new h =
 machine_tells : (opening : List (List ℕ)) (starts : List MachineState) (passed : Passage → Bool) (old new : SeatState) (m : ℕ) (c : MachineCommand)
     (reply : ServiceReply)
     → ServesMachine opening starts passed old m c reply new → Tells old [] new
-machine_tells opening starts passed old new m c reply (inl h) = same old new h.same
+machine_tells opening starts passed old new m c reply (inl h) = same old new h.2
 machine_tells opening starts passed old new m c reply (inr h) = goes h.goes_on where
   lent_tells : AnswersLent c old h.before m h.said h.answered h.left → Tells old [] h.answered
   lent_tells (inl t) = same old h.answered t.same

@@ -34,7 +34,7 @@ get_busy n reply (Err get_error.Memory) e b = absurd (unlike reply _ e b refl)
 -- what came of one try to get
 pub got_once : {Z : Type 0} {n offset size : ℕ} {old new : SeatState} (r : Result (Vec ℕ Z) GetError)
     → IfOk r (λ v. GetsRange old.view old.stamp n offset size (Ok v.items) new.view new.stamp)
-    → IfErr r (λ why. GetsRange old.view old.stamp n offset size (Err why) new.view new.stamp) → GetsOnce old n offset size (reply_of_get n r) new
+    → IfErr r (λ why. GetsRange old.view old.stamp n offset size (Err why) new.view new.stamp) → GetsOnce n offset size old (reply_of_get n r) new
 got_once (Ok v) h k = record { outcome = Ok v.items; reply_is = refl; gets = h }
 got_once (Err why) h k = record { outcome = Err why; reply_is = refl; gets = k }
 
@@ -44,16 +44,16 @@ one_more : (once : SeatState → ServiceReply → SeatState → Type 0) (n k : �
 one_more once n k old mid new h t = let e : k + 1 ≡ suc k = omega arith in subst (λ j. FoundBusy once n j old new) (sym e) (mid, h, t)
 
 pub put_again : (n offset : ℕ) (bytes : List ℕ) (k : ℕ) (old mid new : SeatState) (reply : ServiceReply) → is_busy reply ≡ true
-    → FoundBusy (λ s r t. PutsOnce s n offset bytes r t) n k old mid → PutsOnce mid n offset bytes reply new
-    → FoundBusy (λ s r t. PutsOnce s n offset bytes r t) n (k + 1) old new
-put_again n offset bytes k old mid new reply b h t = one_more (λ s r t. PutsOnce s n offset bytes r t) n k old mid new h
-    (subst (λ r. PutsOnce mid n offset bytes r new) (put_busy n reply t.outcome t.reply_is b) t)
+    → FoundBusy (PutsOnce n offset bytes) n k old mid → PutsOnce n offset bytes mid reply new
+    → FoundBusy (PutsOnce n offset bytes) n (k + 1) old new
+put_again n offset bytes k old mid new reply b h t = one_more (PutsOnce n offset bytes) n k old mid new h
+    (subst (λ r. PutsOnce n offset bytes mid r new) (put_busy n reply t.outcome t.reply_is b) t)
 
 pub get_again : (n offset size k : ℕ) (old mid new : SeatState) (reply : ServiceReply) → is_busy reply ≡ true
-    → FoundBusy (λ s r t. GetsOnce s n offset size r t) n k old mid → GetsOnce mid n offset size reply new
-    → FoundBusy (λ s r t. GetsOnce s n offset size r t) n (k + 1) old new
-get_again n offset size k old mid new reply b h t = one_more (λ s r t. GetsOnce s n offset size r t) n k old mid new h
-    (subst (λ r. GetsOnce mid n offset size r new) (get_busy n reply t.outcome t.reply_is b) t)
+    → FoundBusy (GetsOnce n offset size) n k old mid → GetsOnce n offset size mid reply new
+    → FoundBusy (GetsOnce n offset size) n (k + 1) old new
+get_again n offset size k old mid new reply b h t = one_more (GetsOnce n offset size) n k old mid new h
+    (subst (λ r. GetsOnce n offset size mid r new) (get_busy n reply t.outcome t.reply_is b) t)
 
 -- the last try is answered otherwise
 pub tried : (once : SeatState → ServiceReply → SeatState → Type 0) (n k : ℕ) (old mid new : SeatState) (reply : ServiceReply)

@@ -17,12 +17,28 @@ use Rattle.ship_service.specs.Conversed.{HadOneClient}
 use Rattle.ship_service.specs.ClosingLines.{closing_lines}
 use Rattle.ship_service.specs.Opening.{first_mover_view, opened_bytes}
 use Rattle.placement.specs.declared.places.Place.{Place}
+use Rattle.ship_service.specs.declared.opened.OpenAgent.{OpenAgent}
+use Rattle.ship_service.specs.declared.opened.OpenAgent.TheVariants as open_agent
+use Rattle.ship_service.specs.declared.threads.ThreadFault.{ThreadFault}
+use Rattle.ship_service.specs.declared.threads.ThreadFault.TheVariants as thread_fault
 use Rattle.ship_service.specs.declared.listening.ListenFault.{ListenFault}
 use Rattle.ship_service.specs.declared.listening.ListenFault.TheVariants.{NotHere, Memory, Net, Write}
 
 -- the line that says that all has ended
 abbrev pub closed_line : List ℕ
 closed_line = codes "closed" ++ 10 ∷ []
+
+-- ---- why it ends
+
+-- where no agent is opened
+abbrev pub of_opening : OpenAgent → ListenFault
+of_opening (open_agent.NotHere n) = NotHere n
+of_opening open_agent.Memory = Memory
+
+-- where its threads end before all its connections have
+abbrev pub of_threads : ThreadFault → ListenFault
+of_threads thread_fault.Net = Net
+of_threads thread_fault.Memory = Memory
 
 -- ---- closing
 

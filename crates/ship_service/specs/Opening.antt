@@ -2,6 +2,8 @@
 use Rattle.std.specs.Prelude.{◌≡◌, ℕ, ◌+◌, Bool, true, List, [], ◌∷◌, length, map, replicate, None}
 use Rattle.atomic_table.specs.Seated.{TableId}
 use Rattle.object_store.specs.Parts.{AllHere, IsFirstAway, bodies_of}
+use Rattle.object_store.specs.declared.errors.PartsError.{PartsError}
+use Rattle.object_store.specs.declared.errors.PartsError.TheVariants as parts_error
 pub use Rattle.scopes.specs.Windows.{machine_limit}
 use Rattle.shared_objects.specs.declared.seats.ActorSeat.{ActorSeat}
 use Rattle.shared_objects.specs.declared.table.SharedTable.{SharedTable}
@@ -38,6 +40,11 @@ opened_bytes w = [] ∷ bodies_of w.store.objects
 abbrev pub RefusesWorld : WorldState → OpenAgent → Type 0
 RefusesWorld w (NotHere n) = IsFirstAway w.store.places n
 RefusesWorld w Memory = AllHere w.store.places
+
+-- why no agent is opened of a world that can't be taken apart
+abbrev pub of_parts : PartsError → OpenAgent
+of_parts (parts_error.NotHere n) = NotHere n
+of_parts parts_error.Memory = Memory
 
 -- ---- seats
 

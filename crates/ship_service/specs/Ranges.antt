@@ -38,13 +38,13 @@ reply_of_get n (Ok bytes) = reply_to_get n (Ok bytes.items)
 reply_of_get n (Err why) = reply_to_get n (Err why)
 
 -- One try to put: the reply is what the table did with these bytes at the seat.
-pub record PutsOnce (old : SeatState) (n offset : ℕ) (bytes : List ℕ) (reply : ServiceReply) (new : SeatState) : Type 0 where
+pub record PutsOnce (n offset : ℕ) (bytes : List ℕ) (old : SeatState) (reply : ServiceReply) (new : SeatState) : Type 0 where
   pub outcome : Result Unit Denied
   pub reply_is : reply ≡ reply_to_put n outcome
   pub puts : PutsRange old.view old.stamp n offset bytes outcome new.view new.stamp
 
 -- One try to get: the reply is what the table did with this range at the seat.
-pub record GetsOnce (old : SeatState) (n offset size : ℕ) (reply : ServiceReply) (new : SeatState) : Type 0 where
+pub record GetsOnce (n offset size : ℕ) (old : SeatState) (reply : ServiceReply) (new : SeatState) : Type 0 where
   pub outcome : Result (List ℕ) GetError
   pub reply_is : reply ≡ reply_to_get n outcome
   pub gets : GetsRange old.view old.stamp n offset size outcome new.view new.stamp
@@ -68,14 +68,6 @@ pub record InTries (once : SeatState → ServiceReply → SeatState → Type 0) 
   pub last : once mid reply new
   pub few : tries ≤ retry_limit
   pub all : is_busy reply ≡ true → tries ≡ retry_limit
-
--- `put`
-abbrev pub ServesPut : SeatState → ℕ → ℕ → List ℕ → ServiceReply → SeatState → Type 0
-ServesPut old n offset bytes reply new = InTries (λ before reply after. PutsOnce before n offset bytes reply after) n old reply new
-
--- `get`
-abbrev pub ServesGet : SeatState → ℕ → ℕ → ℕ → ServiceReply → SeatState → Type 0
-ServesGet old n offset size reply new = InTries (λ before reply after. GetsOnce before n offset size reply after) n old reply new
 
 -- ---- moves
 

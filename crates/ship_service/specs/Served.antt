@@ -18,13 +18,12 @@ use Rattle.world.specs.declared.events.Event.{Event}
 use Rattle.world.specs.declared.events.Event.TheVariants as event
 use Rattle.world.specs.declared.events.ObjectCommand.{ObjectCommand}
 use Rattle.world.specs.declared.events.ObjectCommand.TheVariants as object
-use Rattle.world.specs.declared.world.moving.Move.{Move}
 use Rattle.world.specs.declared.world.moving.Move.TheVariants as move
 use Rattle.console.specs.Conversations.{Protocol}
 use Rattle.ship_service.specs.declared.replies.ServiceReply.{ServiceReply}
 use Rattle.ship_service.specs.declared.replies.ServiceReply.TheVariants.{Plain, Unserved}
 use Rattle.ship_service.specs.Replies.{service_text}
-use Rattle.ship_service.specs.Ranges.{ServesPut, ServesGet, AsksMover}
+use Rattle.ship_service.specs.Ranges.{InTries, PutsOnce, GetsOnce, AsksMover}
 use Rattle.ship_service.specs.Lent.{AnswersLent, ShipsCell, learning, resumes}
 
 -- ---- cells
@@ -91,20 +90,10 @@ pub record OnCell (opening : List (List ℕ)) (starts : List MachineState) (pass
   pub goes_on : ((resumes command said ≡ true) × GoesOn opening starts passed m answered after new)
       ⊎ ((resumes command said ≡ false) × (new ≡ answered) × (after ≡ left))
 
--- There can be no machine of this number.
-pub record NoCell (old : SeatState) (m : ℕ) (reply : ServiceReply) (new : SeatState) : Type 0 where
-  pub none : (1 ≤ m) × (m ≤ machine_limit) → ⊥
-  pub reply_is : reply ≡ Plain answer.Missing
-  pub same : new ≡ old
-
--- a command on machine m
+-- A command on machine m: either there can be no machine of this number, or the command is done on its cell.
 abbrev pub ServesMachine : List (List ℕ) → List MachineState → (Passage → Bool) → SeatState → ℕ → MachineCommand → ServiceReply → SeatState → Type 0
-ServesMachine opening starts passed old m command reply new = NoCell old m reply new ⊎ OnCell opening starts passed old m command reply new
-
--- All cells have machines: each was lent with one.
-pub record NoRoom (passed : Passage → Bool) (reply : ServiceReply) : Type 0 where
-  pub all : AreLent passed machine_limit
-  pub reply_is : reply ≡ Plain answer.Full
+ServesMachine opening starts passed old m command reply new =
+    (((1 ≤ m) × (m ≤ machine_limit) → ⊥) × (reply ≡ Plain answer.Missing) × (new ≡ old)) ⊎ OnCell opening starts passed old m command reply new
 
 -- The code comes into a cell without a machine: the cells of the lesser numbers were each lent with one.
 pub record IntoCell (opening : List (List ℕ)) (starts : List MachineState) (passed : Passage → Bool) (start : Start) (code : List ℕ) (reply : ServiceReply) : Type 0 where
@@ -119,43 +108,33 @@ pub record IntoCell (opening : List (List ℕ)) (starts : List MachineState) (pa
   pub reply_is : reply ≡ Plain said
   pub ships : ShipsCell start code before said after
 
--- `ship`
+-- `ship`: either all cells have machines, for each was lent with one, or the code comes into a cell without a machine.
 abbrev pub ServesShip : List (List ℕ) → List MachineState → (Passage → Bool) → Start → List ℕ → ServiceReply → Type 0
-ServesShip opening starts passed start code reply = NoRoom passed reply ⊎ IntoCell opening starts passed start code reply
+ServesShip opening starts passed start code reply =
+    (AreLent passed machine_limit × (reply ≡ Plain answer.Full)) ⊎ IntoCell opening starts passed start code reply
 
 -- ---- commands
 
--- The service doesn't do it.
-abbrev pub IsUnserved : SeatState → ServiceReply → SeatState → Type 0
-IsUnserved old reply new = (reply ≡ Unserved) × (new ≡ old)
-
--- The mover is asked for a move that begins. It ends moves by itself.
-abbrev pub ServesMove : List (List ℕ) → ℕ → Move → ServiceReply → Type 0
-ServesMove opening n move.Leave reply = AsksMover opening n reply
-ServesMove opening n move.Return reply = AsksMover opening n reply
-ServesMove opening n _ reply = reply ≡ Unserved
-
--- a command on object n
+-- A command on object n. The service frees none. It asks the mover to begin a move, which the mover ends by itself.
 abbrev pub ServesObject : SeatState → ℕ → ObjectCommand → ServiceReply → SeatState → Type 0
-ServesObject old n object.Free reply new = IsUnserved old reply new
-ServesObject old n (object.Put offset bytes) reply new = ServesPut old n offset bytes reply new
-ServesObject old n (object.Get offset size) reply new = ServesGet old n offset size reply new
-ServesObject old n (object.Move m) reply new = ServesMove old.view.opening n m reply × (new ≡ old)
+ServesObject old n object.Free reply new = (reply ≡ Unserved) × (new ≡ old)
+ServesObject old n (object.Put offset bytes) reply new = InTries (PutsOnce n offset bytes) n old reply new
+ServesObject old n (object.Get offset size) reply new = InTries (GetsOnce n offset size) n old reply new
+ServesObject old n (object.Move move.Leave) reply new = AsksMover old.view.opening n reply × (new ≡ old)
+ServesObject old n (object.Move move.Return) reply new = AsksMover old.view.opening n reply × (new ≡ old)
+ServesObject old n (object.Move _) reply new = (reply ≡ Unserved) × (new ≡ old)
 
--- what a command is answered, and what it does to the seat
+-- What a command is answered, and what it does to the seat. The service makes no object.
 abbrev pub Serves : List (List ℕ) → List MachineState → (Passage → Bool) → SeatState → Event → ServiceReply → SeatState → Type 0
-Serves opening starts passed old (event.Make size) reply new = IsUnserved old reply new
+Serves opening starts passed old (event.Make size) reply new = (reply ≡ Unserved) × (new ≡ old)
 Serves opening starts passed old (event.Ship start code) reply new = ServesShip opening starts passed start code reply × (new ≡ old)
 Serves opening starts passed old (event.Object n command) reply new = ServesObject old n command reply new
 Serves opening starts passed old (event.Machine m command) reply new = ServesMachine opening starts passed old m command reply new
 
--- no scope is open
-abbrev pub shut_seat : SeatState → SeatState
-shut_seat s = record s { view = shut s.view }
-
--- After each command the seat's scopes are closed.
+-- After each command no scope of the seat is open.
 abbrev pub ServesTurn : List (List ℕ) → List MachineState → (Passage → Bool) → SeatState → Event → ServiceReply → SeatState → Type 0
-ServesTurn opening starts passed old command reply new = (mid : SeatState) × Serves opening starts passed old command reply mid × (new ≡ shut_seat mid)
+ServesTurn opening starts passed old command reply new =
+    (mid : SeatState) × Serves opening starts passed old command reply mid × (new ≡ record mid { view = shut mid.view })
 
 -- the protocol of a service whose table was opened with these bytes and these machines, and whose name says which cells were lent
 -- with a machine: its states are what the connection's seat knows

@@ -1,13 +1,12 @@
 //! A service that listens.
-ghost use Rattle.std.specs.Prelude.{◌≡◌, ◌+◌, length, All};
+ghost use Rattle.std.specs.Prelude.{◌≡◌, ◌+◌, length};
 ghost use Rattle.scopes.specs.Windows.{machine_limit};
 ghost use Rattle.world.specs.WorldState.{state_of};
-ghost use Rattle.ship_service.specs.Conversed.{IsUnused};
-ghost use Rattle.ship_service.specs.Listening.{FindsHere, OpensAll, SaysAs, SaysAtPort, SaysClosing, TellsClosing, TellsClosingOf};
-ghost use Rattle.ship_service.specs.Opening.{IsNamed, first_mover_view};
+ghost use Rattle.ship_service.specs.declared.listening.ListenFault.{ListenFault};
+ghost use Rattle.ship_service.specs.Listening.{FindsHere, OpensAll, SaysAs, SaysAtPort, SaysClosing, TellsClosing, TellsClosingOf, of_opening, of_threads};
+ghost use Rattle.ship_service.specs.Opening.{IsNamed};
 
 use crate::closing_lines::write_closing_lines;
-use crate::connection::Connection;
 use crate::journal::{Journal, Unwritten};
 use crate::opened::{OpenAgent, Opened};
 use crate::shared_agent::Agent;
@@ -15,15 +14,15 @@ use crate::texts::closed_line;
 use crate::threads::{Ended, Plan, ThreadFault, serve_all};
 use far_store::FarStore;
 use listener::{Door, NET_FAULT, Name, announce_at, port_name};
-use std::alloc::Global;
+use std::alloc::{AllocError, Global};
 use std::io::Write;
 use std::marker::Brand;
 use std::net::{TcpListener, TcpStream};
 use std::sync::Wait;
 use std::thread::Threads;
-use streams::{NO_MEMORY, WRITE_FAULT, put_all};
+use streams::{NO_MEMORY, WRITE_FAULT, WriteFault, put_all};
 use thiserror::Error;
-use workers::{Mover, TableName, Upkeep};
+use workers::{TableName, Upkeep};
 use world::World;
 
 /// Why a service ended otherwise than with its connections.
@@ -43,6 +42,44 @@ pub enum ListenFault {
     Write,
 }
 
+impl From<OpenAgent> for ListenFault {
+    ghost from_gives = { λ why fault. fault ≡ of_opening why };
+
+    fn from(why: OpenAgent) -> ListenFault {
+        match why {
+            OpenAgent::NotHere(number) => ListenFault::NotHere(number),
+            OpenAgent::Memory => ListenFault::Memory,
+        }
+    }
+}
+
+impl From<ThreadFault> for ListenFault {
+    ghost from_gives = { λ ended fault. fault ≡ of_threads ended };
+
+    fn from(ended: ThreadFault) -> ListenFault {
+        match ended {
+            ThreadFault::Net => ListenFault::Net,
+            ThreadFault::Memory => ListenFault::Memory,
+        }
+    }
+}
+
+impl From<AllocError> for ListenFault {
+    ghost from_gives = { λ _ fault. fault ≡ ListenFault.Memory };
+
+    fn from(_refused: AllocError) -> ListenFault {
+        ListenFault::Memory
+    }
+}
+
+impl From<WriteFault> for ListenFault {
+    ghost from_gives = { λ _ fault. fault ≡ ListenFault.Write };
+
+    fn from(_failed: WriteFault) -> ListenFault {
+        ListenFault::Write
+    }
+}
+
 /// Closes with all its connections, and says what is left.
 fn close<F: FarStore + Drop, K: TableName, W: Write, J: Journal>(
     alloc: Global,
@@ -54,70 +91,14 @@ fn close<F: FarStore + Drop, K: TableName, W: Write, J: Journal>(
     requires all { K.seats ≡ machine_limit + length ended.connections.items }
     ensures { SaysClosing (TellsClosing F F.RETURNS K.table K.opening K.starts K.passed) (W.contents writer.old) (W.contents writer.new) result }
 {
-    let Ok(closed) = ended.close(alloc, agent) else {
-        return Err(ListenFault::Memory);
-    };
+    let closed = ended.close(alloc, agent)?;
     closed.tell(journal);
-    let Ok(()) = put_all(writer, closed_line()) else {
-        return Err(ListenFault::Write);
-    };
-    let Ok(()) = write_closing_lines(writer, &closed) else {
-        return Err(ListenFault::Write);
-    };
+    put_all(writer, closed_line())?;
+    write_closing_lines(writer, &closed)?;
     Ok(())
 }
 
-/// Serves all connections, and closes with what their threads and the mover's left.
-fn serve_opened<
-    F: FarStore + Drop + Send + Sync,
-    K: TableName + Send + Sync,
-    W: Write,
-    R: Threads + Wait + Sync,
-    J: Journal + Sync,
->(
-    rt: &R,
-    alloc: Global,
-    door: Door,
-    name: &Name,
-    writer: &mut W,
-    agent: Agent<F, K>,
-    connections: Vec<Connection<K>>,
-    mover: Mover<F, K>,
-    far: Option<TcpStream>,
-    plan: Plan,
-    journal: &J,
-) -> Result<(), ListenFault>
-where
-    F::Parcel: Send,
-    requires all { K.seats ≡ machine_limit + length connections.items }
-    requires first { mover.view ≡ first_mover_view F.RETURNS K.opening }
-    requires unused { All (λ c. IsUnused K.table F.RETURNS K.opening c.session.seat) connections.items }
-    ensures says { SaysAs (TellsClosing F F.RETURNS K.table K.opening K.starts K.passed) name.now.items (W.contents writer.old) (W.contents writer.new) result }
-    ensures here { OpensAll result }
-{
-    let Ok(()) = announce_at(name, writer) else {
-        return Err(ListenFault::Write);
-    };
-    let outcome = serve_all(
-        rt,
-        alloc,
-        &agent,
-        connections,
-        mover,
-        door,
-        far,
-        plan,
-        journal,
-    );
-    let ended = match outcome {
-        Ok(ended) => ended,
-        Err(ThreadFault::Net) => return Err(ListenFault::Net),
-        Err(ThreadFault::Memory) => return Err(ListenFault::Memory),
-    };
-    close(alloc, journal, writer, agent, ended)
-}
-
-/// Serves what was opened.
+/// Serves all connections of what was opened, and closes with what their threads and the mover's left.
 fn listen_opened<
     F: FarStore + Drop + Send + Sync,
     K: TableName + Send + Sync,
@@ -141,22 +122,20 @@ where
     ensures says { SaysAs (TellsClosing F F.RETURNS K.table K.opening K.starts K.passed) name.now.items (W.contents writer.old) (W.contents writer.new) result }
     ensures here { OpensAll result }
 {
-    let Ok((agent, connections, mover)) = Agent::<F, K>::open(rt, alloc, opened) else {
-        return Err(ListenFault::Memory);
-    };
-    serve_opened(
+    let (agent, connections, mover) = Agent::<F, K>::open(rt, alloc, opened)?;
+    announce_at(name, writer)?;
+    let ended = serve_all(
         rt,
         alloc,
-        door,
-        name,
-        writer,
-        agent,
+        &agent,
         connections,
         mover,
+        door,
         far,
         plan,
         journal,
-    )
+    )?;
+    close(alloc, journal, writer, agent, ended)
 }
 
 /// Shares the objects and machines of a world, which all have to be here, with so many connections, at most eight, on a
@@ -181,11 +160,7 @@ where
     ensures says { SaysAtPort (TellsClosingOf F F.RETURNS (state_of world)) (W.contents writer.old) (W.contents writer.new) result }
     ensures here { FindsHere world.store.state.places result }
 {
-    let opened = match Opened::new(alloc, world) {
-        Ok(opened) => opened,
-        Err(OpenAgent::NotHere(number)) => return Err(ListenFault::NotHere(number)),
-        Err(OpenAgent::Memory) => return Err(ListenFault::Memory),
-    };
+    let opened = Opened::new(alloc, world)?;
     let plan = Plan {
         connections,
         workers,
@@ -227,10 +202,6 @@ where
     ensures says { SaysAs (TellsClosingOf S S.RETURNS (state_of world)) name.now.items (W.contents writer.old) (W.contents writer.new) result }
     ensures here { FindsHere world.store.state.places result }
 {
-    let opened = match Opened::over(alloc, world, store) {
-        Ok(opened) => opened,
-        Err(OpenAgent::NotHere(number)) => return Err(ListenFault::NotHere(number)),
-        Err(OpenAgent::Memory) => return Err(ListenFault::Memory),
-    };
+    let opened = Opened::over(alloc, world, store)?;
     listen_opened::<S, Brand, W, R, J>(rt, alloc, door, name, writer, opened, far, plan, journal)
 }

@@ -9,7 +9,8 @@ ghost use Rattle.shared_objects.specs.Opened.{AreFresh, IsActorOf, IsMoverOf, de
 ghost use Rattle.shared_objects.specs.Opening.{opening_bytes};
 ghost use Rattle.shared_objects.specs.Tables.{table_opening};
 ghost use Rattle.workers.specs.Cells.{IsSeatOf};
-ghost use Rattle.ship_service.specs.Opening.{machine_limit, AreFreshSeats, IsNamed, RefusesWorld, connection_limit, first_mover, opened_bytes, seat_count};
+ghost use Rattle.ship_service.specs.declared.opened.OpenAgent.{OpenAgent};
+ghost use Rattle.ship_service.specs.Opening.{machine_limit, AreFreshSeats, IsNamed, RefusesWorld, connection_limit, first_mover, of_parts, opened_bytes, seat_count};
 
 use crate::connection::Connection;
 use crate::shared_agent::Agent;
@@ -39,6 +40,33 @@ pub enum OpenAgent {
     /// Out of memory.
     #[error("no memory")]
     Memory,
+}
+
+impl From<PartsError> for OpenAgent {
+    ghost from_gives = { λ refused why. why ≡ of_parts refused };
+
+    fn from(refused: PartsError) -> OpenAgent {
+        match refused {
+            PartsError::NotHere(number) => OpenAgent::NotHere(number),
+            PartsError::Memory => OpenAgent::Memory,
+        }
+    }
+}
+
+impl From<OpenFault> for OpenAgent {
+    ghost from_gives = { λ _ why. why ≡ OpenAgent.Memory };
+
+    fn from(_refused: OpenFault) -> OpenAgent {
+        OpenAgent::Memory
+    }
+}
+
+impl From<AllocError> for OpenAgent {
+    ghost from_gives = { λ _ why. why ≡ OpenAgent.Memory };
+
+    fn from(_refused: AllocError) -> OpenAgent {
+        OpenAgent::Memory
+    }
 }
 
 /// What a world became: a table of its objects that nobody uses yet, with the seats of all who will, its machines, and its far
@@ -82,22 +110,6 @@ fn open_parts<F: FarStore + Drop>(
     })
 }
 
-/// The parts of a world, whose objects all have to be here. On a refusal it is dropped.
-fn take_apart<F: FarStore + Drop>(world: World<F>) -> Result<WorldParts<F>, OpenAgent>
-    ensures here { OnOk result (AllHere world.store.state.places) }
-    ensures bodies { IfOk result (λ parts. opening_bytes parts.bodies ≡ opened_bytes (state_of world)) }
-    ensures machines { IfOk result (λ parts. parts.machines.items ≡ world.machines) }
-    ensures few { IfOk result (λ parts. (length parts.machines.items ≤ machine_limit) × (length parts.bodies.items ≤ object_limit)) }
-    ensures store { IfOk result (λ parts. Calls F.called world.store.far (forgets_all world.store.sent) parts.store) }
-    ensures refused { IfErr result (λ why. RefusesWorld (state_of world) why) }
-{
-    match world.into_parts() {
-        Ok(parts) => Ok(parts),
-        Err(PartsError::NotHere(number)) => Err(OpenAgent::NotHere(number)),
-        Err(PartsError::Memory) => Err(OpenAgent::Memory),
-    }
-}
-
 impl<F: FarStore + Drop> Opened<F> {
     /// Opens a table of the world's objects, which all have to be here. A number whose object was freed has no bytes; where no
     /// object was ever made, the table has one body without bytes. The machines and their debug states stay as they are; no scope
@@ -109,11 +121,8 @@ impl<F: FarStore + Drop> Opened<F> {
         ensures store { IfOk result (λ opened. Calls F.called world.store.far (forgets_all world.store.sent) opened.store) }
         ensures refused { IfErr result (λ why. RefusesWorld (state_of world) why) }
     {
-        let parts = take_apart(world)?;
-        match open_parts(alloc, parts) {
-            Ok(opened) => Ok(opened),
-            Err(_) => Err(OpenAgent::Memory),
-        }
+        let parts = world.into_parts()?;
+        Ok(open_parts(alloc, parts)?)
     }
 
     /// The same over another far store than the world's, which is dropped.
@@ -132,16 +141,13 @@ impl<F: FarStore + Drop> Opened<F> {
             machines,
             bodies,
             ..
-        } = take_apart(world)?;
+        } = world.into_parts()?;
         let parts = WorldParts {
             machines,
             bodies,
             store,
         };
-        match open_parts(alloc, parts) {
-            Ok(opened) => Ok(opened),
-            Err(_) => Err(OpenAgent::Memory),
-        }
+        Ok(open_parts(alloc, parts)?)
     }
 }
 
@@ -184,19 +190,11 @@ impl<F: FarStore + Drop, K: TableName> Agent<F, K> {
             machines,
             store,
         } = opened;
-        let Ok(posts) = seats.split_off(MACHINE_LIMIT) else {
-            return Err(OpenAgent::Memory);
-        };
-        let Ok(connections) = connections_of(alloc, posts) else {
-            return Err(OpenAgent::Memory);
-        };
-        let Ok(mover) = Mover::new(alloc, mover, store) else {
-            return Err(OpenAgent::Memory);
-        };
+        let posts = seats.split_off(MACHINE_LIMIT)?;
+        let connections = connections_of(alloc, posts)?;
+        let mover = Mover::new(alloc, mover, store)?;
         mover.fact();
-        match Pool::new(rt, alloc, shared, seats, machines) {
-            Ok(pool) => Ok((Agent::new(pool), connections, mover)),
-            Err(_) => Err(OpenAgent::Memory),
-        }
+        let pool = Pool::new(rt, alloc, shared, seats, machines)?;
+        Ok((Agent::new(pool), connections, mover))
     }
 }

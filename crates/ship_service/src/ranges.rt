@@ -1,7 +1,7 @@
 //! Commands on objects, at a connection's seat.
 ghost use Rattle.std.specs.Prelude.{◌≡◌};
 ghost use Rattle.workers.specs.Cells.{IsSeatOf, seat_state};
-ghost use Rattle.ship_service.specs.Ranges.{PutsOnce, GetsOnce, ServesPut, ServesGet, AsksMover, reply_to_denied, reply_of_get};
+ghost use Rattle.ship_service.specs.Ranges.{PutsOnce, GetsOnce, InTries, AsksMover, reply_to_denied, reply_of_get};
 ghost use Rattle.ship_service.specs.Replies.{IsShortReply, is_busy, service_text};
 ghost use Rattle.console.specs.Lines.{ended};
 
@@ -48,7 +48,7 @@ fn put_once<F: FarStore, K: TableName, R: Wait>(
 ) -> ServiceReply
     requires { IsSeatOf K.table K.opening seat.old }
     ensures of { IsSeatOf K.table K.opening seat.new }
-    ensures put { PutsOnce (seat_state seat.old) object offset bytes.now result (seat_state seat.new) }
+    ensures put { PutsOnce object offset bytes.now (seat_state seat.old) result (seat_state seat.new) }
 {
     match pool.table().put(seat, object, offset, bytes) {
         Ok(()) => ServiceReply::Plain(Reply::Done),
@@ -67,7 +67,7 @@ pub(crate) fn put<F: FarStore, K: TableName, R: Wait>(
 ) -> ServiceReply
     requires { IsSeatOf K.table K.opening seat.old }
     ensures of { IsSeatOf K.table K.opening seat.new }
-    ensures put { ServesPut (seat_state seat.old) object offset bytes.now result (seat_state seat.new) }
+    ensures put { InTries (PutsOnce object offset bytes.now) object (seat_state seat.old) result (seat_state seat.new) }
 {
     for retry in 0..RETRY_LIMIT {
         let reply = put_once(rt, pool, seat, object, offset, bytes);
@@ -112,7 +112,7 @@ fn fetch_once<F: FarStore, K: TableName>(
 ) -> Result<Vec<u8>, GetError>
     requires { IsSeatOf K.table K.opening seat.old }
     ensures of { IsSeatOf K.table K.opening seat.new }
-    ensures get { GetsOnce (seat_state seat.old) object offset length (reply_of_get object result) (seat_state seat.new) }
+    ensures get { GetsOnce object offset length (seat_state seat.old) (reply_of_get object result) (seat_state seat.new) }
 {
     pool.table().get(seat, object, offset, length)
 }
@@ -128,7 +128,7 @@ pub(crate) fn fetch<F: FarStore, K: TableName, R: Wait>(
 ) -> Result<Vec<u8>, GetError>
     requires { IsSeatOf K.table K.opening seat.old }
     ensures of { IsSeatOf K.table K.opening seat.new }
-    ensures get { ServesGet (seat_state seat.old) object offset length (reply_of_get object result) (seat_state seat.new) }
+    ensures get { InTries (GetsOnce object offset length) object (seat_state seat.old) (reply_of_get object result) (seat_state seat.new) }
 {
     for retry in 0..RETRY_LIMIT {
         let found = fetch_once(pool, seat, object, offset, length);
@@ -151,7 +151,7 @@ pub(crate) fn get<F: FarStore, K: TableName, R: Wait>(
 ) -> ServiceReply
     requires { IsSeatOf K.table K.opening seat.old }
     ensures of { IsSeatOf K.table K.opening seat.new }
-    ensures get { ServesGet (seat_state seat.old) object offset length result (seat_state seat.new) }
+    ensures get { InTries (GetsOnce object offset length) object (seat_state seat.old) result (seat_state seat.new) }
 {
     let found = fetch(rt, pool, seat, object, offset, length);
     reply_of_get(rt, pool, object, found)

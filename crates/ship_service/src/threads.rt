@@ -305,9 +305,7 @@ where
             ensures clients { IfOk result (λ ended. All (λ c. HadOneClient K.table F.RETURNS K.opening K.passed c.session.seat) ended.items) }
         {
             let count = connections.len();
-            let Ok(mut conversations) = Vec::with_capacity(alloc, count) else {
-                return Err(ThreadFault::Memory);
-            };
+            let mut conversations = Vec::with_capacity(alloc, count)?;
             let mut streams = Vec::new(alloc);
             let mut client: u64 = 0;
             let mut left = connections.into_iter();
@@ -441,10 +439,10 @@ where
             };
             let outcome = serve_beside_workers(tools, front, workers);
             let mover = moving.join(tools.rt);
-            match outcome {
-                Ok(connections) => Ok(Ended { mover, connections }),
-                Err(fault) => Err(fault),
-            }
+            Ok(Ended {
+                mover,
+                connections: outcome?,
+            })
         },
     )
 }

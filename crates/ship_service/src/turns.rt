@@ -41,18 +41,6 @@ enum Part {
     Leave,
 }
 
-/// Puts the machine into the queue. It goes on.
-fn leave<F: FarStore, K: TableName, R: Wait>(
-    rt: &R,
-    pool: &Pool<F, K>,
-    locked: &mut Locked<K>,
-) -> bool
-    ensures { TurnsCell turn_limit locked.old locked.new }
-{
-    pool.put_in_queue(rt, locked);
-    true
-}
-
 /// Does this with the cell, and says whether its machine goes on.
 fn take_part<F: FarStore, K: TableName, R: Wait>(
     rt: &R,
@@ -64,7 +52,10 @@ fn take_part<F: FarStore, K: TableName, R: Wait>(
 {
     match part {
         Part::Turn => pool.turn_lent(rt, locked),
-        Part::Leave => leave(rt, pool, locked),
+        Part::Leave => {
+            pool.put_in_queue(rt, locked);
+            true
+        }
     }
 }
 

@@ -7,6 +7,6 @@ use Rattle.ship_service.proofs.listening.listen.Goals as goal
 
 pub returns-clause-says : goal.returns-clause-says
 returns-clause-says g c =
-    let more = tells_of_world _ _ _ _ _ each_passed (state_of c.args.world) c.in-Ok.ensures.opening (ap machines_of c.in-Ok.ensures.machines) in
+    let more = tells_of_world _ _ _ _ _ each_passed (state_of c.args.world) c.in_ok-opened.ensures.opening (ap machines_of c.in_ok-opened.ensures.machines) in
     let said = says_more _ _ _ _ _ c.listen_opened.result more c.listen_opened.ensures.says in
     (c.port.result, said_at _ _ _ _ _ _ c.port_name-name.ensures said)

@@ -8,4 +8,4 @@ use Rattle.ship_service.proofs.listening.listen_over.Goals as goal
 pub returns-clause-says : goal.returns-clause-says
 returns-clause-says g c =
     says_more _ _ _ _ _ c.listen_opened.result
-    (tells_of_world _ _ _ _ _ each_passed (state_of c.args.world) c.in-Ok.ensures.opening (ap machines_of c.in-Ok.ensures.machines)) c.listen_opened.ensures.says
+    (tells_of_world _ _ _ _ _ each_passed (state_of c.args.world) c.in_ok-opened.ensures.opening (ap machines_of c.in_ok-opened.ensures.machines)) c.listen_opened.ensures.says

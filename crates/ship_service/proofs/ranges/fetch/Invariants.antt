@@ -5,4 +5,4 @@ use Rattle.ship_service.proofs.ranges.fetch.Given as goal
 
 abbrev pub invariant-loop-retry : goal.invariant-loop-retry
 invariant-loop-retry g l = IsSeatOf g.K.TableName.table g.K.TableName.opening l.seat × (l.retry ≤ retry_limit)
-    × FoundBusy (λ s r t. GetsOnce s l.fn.object l.fn.offset l.fn.length r t) l.fn.object l.retry (seat_state l.fn.seat) (seat_state l.seat)
+    × FoundBusy (GetsOnce l.fn.object l.fn.offset l.fn.length) l.fn.object l.retry (seat_state l.fn.seat) (seat_state l.seat)

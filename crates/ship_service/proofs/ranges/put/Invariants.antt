@@ -5,4 +5,4 @@ use Rattle.ship_service.proofs.ranges.put.Given as goal
 
 abbrev pub invariant-loop-retry : goal.invariant-loop-retry
 invariant-loop-retry g l = IsSeatOf g.K.TableName.table g.K.TableName.opening l.seat × (l.retry ≤ retry_limit)
-    × FoundBusy (λ s r t. PutsOnce s l.fn.object l.fn.offset l.fn.bytes r t) l.fn.object l.retry (seat_state l.fn.seat) (seat_state l.seat)
+    × FoundBusy (PutsOnce l.fn.object l.fn.offset l.fn.bytes) l.fn.object l.retry (seat_state l.fn.seat) (seat_state l.seat)

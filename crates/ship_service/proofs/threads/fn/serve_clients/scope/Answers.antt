@@ -18,5 +18,5 @@ pub clients-init : goal.clients-init
 clients-init g c = (
   All-same (λ c'. IsUnused g.K.TableName.table g.F.FarStore.RETURNS g.K.TableName.opening c'.session.seat) (into_iter_items c.into_iter-left.result)
       c.captures.connections.items c.into_iter-left.ensures.rest c.requires.unused,
-  omega (arith, ap length c.in-Ok.ensures.items, ap length c.into_iter-left.ensures.rest, c.len-count.ensures, c.captures.connections.ok.0),
+  omega (arith, ap length c.in_ok-conversations.ensures.items, ap length c.into_iter-left.ensures.rest, c.len-count.ensures, c.captures.connections.ok.0),
 )

@@ -1,5 +1,0 @@
-use Rattle.std.proofs.Common.{refl, None, arith}
-use Rattle.ship_service.proofs.turns.leave.Goals as goal
-
-pub returns : goal.returns
-returns g c = record { most = 0; few = omega arith; ran = 0; end = None; mid = c.args.locked.now; runs = (refl, refl); queues = c.put_in_queue.ensures }
