@@ -1,5 +1,5 @@
 -- What the arguments of the command line ask for, as `clap` reads them.
-use Rattle.std.specs.Prelude.{◌≡◌, ℕ, Bool, false, true, if◌then◌else◌, ⊤, List, [], ◌∷◌, Option, Some, None, codes, find, option_map, option_and_then}
+use Rattle.std.specs.Prelude.{◌≡◌, ◌≢◌, ℕ, Bool, false, true, if◌then◌else◌, ⊤, List, [], ◌∷◌, Option, Some, None, codes, find, option_map, option_and_then}
 use Rattle.std.specs.Option.{option_map_or}
 use Rattle.std.specs.Str.{bytes_eq}
 use Rattle.std.specs.Str.Parse.{digits_value, without_leading_plus}
@@ -11,6 +11,8 @@ use Rattle.clap.specs.declared.builder.command.Command.TheViews.{out-Command}
 use Rattle.clap.specs.declared.parser.matches.ValueSource.{ValueSource}
 use Rattle.clap.specs.declared.parser.matches.ValueSource.TheVariants.{CommandLine, DefaultValue}
 use Rattle.agent.specs.OptionNumbers.{HasNumber, NumberOption, number_rule}
+use Rattle.agent.specs.declared.arguments.Asked.{Asked}
+use Rattle.agent.specs.declared.arguments.Asked.TheVariants as asked
 use Rattle.agent.specs.declared.arguments.Task.{Task}
 use Rattle.agent.specs.declared.arguments.Task.TheVariants.{Run, Check, Assemble, Disassemble, Store, Serve, Commands}
 use Rattle.agent.specs.declared.arguments.Serving.{Serving}
@@ -251,19 +253,34 @@ far_of arguments = option_and_then (λ p. first_of (codes "far") p.1) (subcomman
 abbrev pub unix_of : List Text → Option Text
 unix_of arguments = option_and_then (λ p. first_of (codes "unix") p.1) (subcommand_of command_line arguments)
 
--- ---- servers
+-- ---- what is asked for
 
 -- the task of a server
 abbrev pub server_task : Server → Task
 server_task (server.Store storing) = Store storing
 server_task (server.Serve serving far unix) = Serve serving
 
--- The server keeps its far objects where these arguments say.
-abbrev pub IsFarAs : List Text → Server → Type 0
-IsFarAs arguments (server.Store storing) = ⊤
-IsFarAs arguments (server.Serve serving far unix) = option_map (λ text. text.now) far ≡ far_of arguments
+-- the task that is asked for, also where a server does it
+abbrev pub asked_task : Asked → Task
+asked_task (asked.Server server) = server_task server
+asked_task (asked.Task task) = task
 
--- The server listens where these arguments say.
-abbrev pub IsUnixAs : List Text → Server → Type 0
-IsUnixAs arguments (server.Store storing) = ⊤
-IsUnixAs arguments (server.Serve serving far unix) = option_map (λ text. text.now) unix ≡ unix_of arguments
+-- A task that a server does is asked for as that server, and never as a task alone.
+abbrev pub IsApart : Asked → Type 0
+IsApart (asked.Server server) = ⊤
+IsApart (asked.Task task) = (server : Server) → task ≢ server_task server
+
+-- This holds of the server that is asked for, if one is.
+abbrev pub IfServer : (Server → Type 0) → Asked → Type 0
+IfServer P (asked.Server server) = P server
+IfServer P (asked.Task task) = ⊤
+
+-- `serve` keeps its far objects at this address, or in its own process where there is none. `store` has no far objects.
+abbrev pub IsFarAs : Option Text → Server → Type 0
+IsFarAs address (server.Store storing) = ⊤
+IsFarAs address (server.Serve serving far unix) = option_map (λ text. text.now) far ≡ address
+
+-- `serve` listens at the socket file of this path, or at a port where there is none. `store` always listens at a port.
+abbrev pub IsUnixAs : Option Text → Server → Type 0
+IsUnixAs path (server.Store storing) = ⊤
+IsUnixAs path (server.Serve serving far unix) = option_map (λ text. text.now) unix ≡ path

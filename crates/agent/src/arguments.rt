@@ -1,17 +1,15 @@
 //! The arguments of the command line.
-ghost use Rattle.std.specs.Prelude.{◌≡◌, ◌≢◌, ℕ, List, Result, [], None, Some, map, codes, option_map, IfOk, IfErr, IfSome};
+ghost use Rattle.std.specs.Prelude.{◌≡◌, ℕ, List, Result, [], Some, map, codes, option_map, IfOk, IfErr};
 ghost use Rattle.clap.specs.Words.{app_of, found_of, new_app, new_rule, rows_of, rule_of, subcommand_of, subcommand_rows_of, with_subcommand, HasKind};
-ghost use Rattle.agent.specs.CommandLine.{HasServing, HasStoring, IsFarAs, IsLocal, IsUnixAs, asm_shape, bare, budget_option, check_shape, command_line, commands_shape};
+ghost use Rattle.agent.specs.CommandLine.{HasServing, HasStoring, IfServer, IsApart, IsFarAs, IsLocal, IsUnixAs, asked_task, asm_shape, bare, budget_option, check_shape, command_line, commands_shape};
 ghost use Rattle.agent.specs.CommandLine.{connections_option, dis_shape, far_of, far_rule, far_timeout_option, faults_of, flag_rule, flagged_shape};
-ghost use Rattle.agent.specs.CommandLine.{idle_option, is_given, is_set, is_told, keep_option, memory_option, number_in, port_option, run_shape, serve_shape, server_task, serving_in, showing_in};
+ghost use Rattle.agent.specs.CommandLine.{idle_option, is_given, is_set, is_told, keep_option, memory_option, number_in, port_option, run_shape, serve_shape, serving_in, showing_in};
 ghost use Rattle.agent.specs.CommandLine.{store_shape, storing_in, task_named, task_of, unix_of, unix_rule, verbose_rule, workers_option};
 ghost use Rattle.agent.specs.OptionNumbers.{HasNumber, ParsesAs, number_rule, parses_as};
-ghost use Rattle.agent.specs.declared.arguments.Server.{Server};
 
 mod help_texts;
 mod laws;
 
-use clap::error::ErrorKind;
 use clap::parser::ValueSource;
 use clap::{Arg, ArgAction, ArgMatches, Command, Error, value_parser};
 use help_texts::{
@@ -106,6 +104,42 @@ pub enum Server<'a> {
         /// The path of the socket file to listen at instead of a port.
         unix: Option<&'a str>,
     },
+}
+
+/// What the arguments ask for.
+#[derive(Clone, Copy, Debug, PartialEq, Eq)]
+pub enum Asked<'a> {
+    /// A server, which needs the network: [`run_store`](crate::run_store) or [`run_service`](crate::run_service).
+    Server(Server<'a>),
+    /// A task over the standard streams, never a server's: [`do_task`](crate::do_task).
+    Task(Task),
+}
+
+impl<'a> Asked<'a> {
+    /// This task, or the server that does it, with the texts of `--far` and `--unix`.
+    fn new(task: Task, far: Option<&'a str>, unix: Option<&'a str>) -> Asked<'a>
+        ensures task { asked_task result ≡ task }
+        ensures far { IfServer (IsFarAs (option_map (λ text. text.now) far.entry)) result }
+        ensures unix { IfServer (IsUnixAs (option_map (λ text. text.now) unix.entry)) result }
+        ensures none { IsApart result }
+    {
+        match task {
+            Task::Store(storing) => Asked::Server(Server::Store(storing)),
+            Task::Serve(serving) => Asked::Server(Server::Serve { serving, far, unix }),
+            task => Asked::Task(task),
+        }
+    }
+
+    /// The task that is asked for, also where a server does it.
+    pub(crate) fn task(self) -> Task
+        ensures { result ≡ asked_task self.entry }
+    {
+        match self {
+            Asked::Server(Server::Store(storing)) => Task::Store(storing),
+            Asked::Server(Server::Serve { serving, .. }) => Task::Serve(serving),
+            Asked::Task(task) => task,
+        }
+    }
 }
 
 /// `--NAME VALUE`, where VALUE is any text.
@@ -557,14 +591,6 @@ fn task_called<'a>(name: &str, matches: &ArgMatches<'a>) -> Option<Task>
     }
 }
 
-/// What the arguments ask for, and the texts of `--far` and `--unix`.
-#[derive(Clone, Copy)]
-pub(crate) struct Asked<'a> {
-    pub task: Task,
-    pub far: Option<&'a str>,
-    pub unix: Option<&'a str>,
-}
-
 /// The matches of the arguments.
 fn read_matches<'a, S: AsStr>(alloc: Global, arguments: &'a [S]) -> Result<ArgMatches<'a>, Error>
     ensures ok { IfOk result (λ matches. (faults_of (map S.text arguments.entry.now) ≡ [])
@@ -574,14 +600,18 @@ fn read_matches<'a, S: AsStr>(alloc: Global, arguments: &'a [S]) -> Result<ArgMa
     make_command(alloc)?.try_get_matches_from(arguments)
 }
 
-/// What the arguments ask for, with the texts of `--far` and `--unix` where they have them.
-pub(crate) fn read_asked<'a, S: AsStr>(
-    alloc: Global,
-    arguments: &'a [S],
-) -> Result<Asked<'a>, Error>
-    ensures ok { IfOk result (λ asked. (faults_of (map S.text arguments.entry.now) ≡ []) × (task_of (map S.text arguments.entry.now) ≡ Some asked.task)) }
-    ensures far { IfOk result (λ asked. option_map (λ text. text.now) asked.far ≡ far_of (map S.text arguments.entry.now)) }
-    ensures unix { IfOk result (λ asked. option_map (λ text. text.now) asked.unix ≡ unix_of (map S.text arguments.entry.now)) }
+/// Reads what the arguments ask for, which are the program's without its own name.
+///
+/// # Errors
+///
+/// If the arguments ask for help or for the version, if something is wrong with them, or out of memory.
+/// [`show_answer`](crate::show_answer) answers each.
+pub fn read_arguments<'a, S: AsStr>(alloc: Global, arguments: &'a [S]) -> Result<Asked<'a>, Error>
+    ensures ok { IfOk result (λ asked. (faults_of (map S.text arguments.entry.now) ≡ [])
+        × (task_of (map S.text arguments.entry.now) ≡ Some (asked_task asked))) }
+    ensures far { IfOk result (IfServer (IsFarAs (far_of (map S.text arguments.entry.now)))) }
+    ensures unix { IfOk result (IfServer (IsUnixAs (unix_of (map S.text arguments.entry.now)))) }
+    ensures none { IfOk result IsApart }
     ensures err { IfErr result (HasKind (faults_of (map S.text arguments.entry.now))) }
 {
     let matches = read_matches(alloc, arguments)?;
@@ -591,43 +621,5 @@ pub(crate) fn read_asked<'a, S: AsStr>(
     let Some(task) = task_called(name, inner) else {
         unreachable!()
     };
-    Ok(Asked {
-        task,
-        far: inner.get_str("far"),
-        unix: inner.get_str("unix"),
-    })
-}
-
-/// What the arguments ask for.
-pub(crate) fn read_arguments<'a, S: AsStr>(alloc: Global, arguments: &'a [S]) -> Result<Task, Error>
-    ensures ok { IfOk result (λ task. (faults_of (map S.text arguments.entry.now) ≡ []) × (task_of (map S.text arguments.entry.now) ≡ Some task)) }
-    ensures err { IfErr result (HasKind (faults_of (map S.text arguments.entry.now))) }
-{
-    let asked = read_asked(alloc, arguments)?;
-    Ok(asked.task)
-}
-
-/// The server that the arguments ask for, if they ask for one. Out of memory is an error.
-pub fn asked_server<'a, S: AsStr>(
-    alloc: Global,
-    arguments: &'a [S],
-) -> Result<Option<Server<'a>>, AllocError>
-    ensures some { IfOk result (λ asked. IfSome asked (λ server. (faults_of (map S.text arguments.entry.now) ≡ [])
-        × (task_of (map S.text arguments.entry.now) ≡ Some (server_task server)))) }
-    ensures far { IfOk result (λ asked. IfSome asked (IsFarAs (map S.text arguments.entry.now))) }
-    ensures unix { IfOk result (λ asked. IfSome asked (IsUnixAs (map S.text arguments.entry.now))) }
-    ensures none { IfOk result (λ asked. asked ≡ None → (server : Server) → faults_of (map S.text arguments.entry.now) ≡ []
-        → task_of (map S.text arguments.entry.now) ≢ Some (server_task server)) }
-{
-    let asked = match read_asked(alloc, arguments) {
-        Ok(asked) => asked,
-        Err(error) if error.kind() == ErrorKind::OutOfMemory => return Err(AllocError),
-        Err(_) => return Ok(None),
-    };
-    let (far, unix) = (asked.far, asked.unix);
-    match asked.task {
-        Task::Store(storing) => Ok(Some(Server::Store(storing))),
-        Task::Serve(serving) => Ok(Some(Server::Serve { serving, far, unix })),
-        _ => Ok(None),
-    }
+    Ok(Asked::new(task, inner.get_str("far"), inner.get_str("unix")))
 }

@@ -68,8 +68,11 @@ fn show_error<E: Write>(text: &str, errors: &mut E) -> ExitStatus
     ExitStatus::InvalidArguments
 }
 
-/// Shows what the arguments are answered with: help, the version, or what is wrong with them.
-fn show<W: Write, E: Write>(
+/// Answers arguments that ask for no task, and gives the exit status.
+///
+/// Help and the version go to `writer`. What is wrong with the arguments goes to `errors`, and so do out of memory and a failure of
+/// `writer`; what that stream doesn't take is lost.
+pub fn show_answer<W: Write, E: Write>(
     alloc: Global,
     error: Error,
     writer: &mut W,
@@ -88,6 +91,37 @@ fn show<W: Write, E: Write>(
             Ok(text) => show_error(text.as_str(), errors),
             Err(_) => report(Err(Failure::NoMemory), errors),
         },
+    }
+}
+
+/// Does a task, and gives the exit status.
+///
+/// The status tells how the task ended, and `errors` why it gave up. For `store` and `serve` it does nothing: who has the network
+/// calls [`run_store`](crate::run_store) and [`run_service`](crate::run_service).
+pub fn do_task<R: Read, W: Write, E: Write>(
+    alloc: Global,
+    task: Task,
+    reader: &mut R,
+    writer: &mut W,
+    errors: &mut E,
+) -> u8
+    ensures { TaskLeaves task (record {
+      input = R.remaining reader.old;
+      unread = R.remaining reader.new;
+      out_before = W.contents writer.old;
+      out_after = W.contents writer.new;
+      errors_before = E.contents errors.old;
+      errors_after = E.contents errors.new;
+    }) result }
+{
+    match task {
+        Task::Run { budget } => report(run(alloc, budget, reader, writer), errors).number(),
+        Task::Check { explains } => check(alloc, explains, reader, writer, errors).number(),
+        Task::Assemble { explains } => asm(alloc, explains, reader, writer, errors).number(),
+        Task::Disassemble(showing) => report(dis(alloc, showing, reader, writer), errors).number(),
+        Task::Store(_) => report(Ok(()), errors).number(),
+        Task::Serve(_) => report(Ok(()), errors).number(),
+        Task::Commands => report(commands(writer), errors).number(),
     }
 }
 
@@ -124,15 +158,7 @@ pub fn tool<'a, S: AsStr, R: Read, W: Write, E: Write>(
         }) result }
 {
     match read_arguments(alloc, arguments) {
-        Ok(Task::Run { budget }) => report(run(alloc, budget, reader, writer), errors).number(),
-        Ok(Task::Check { explains }) => check(alloc, explains, reader, writer, errors).number(),
-        Ok(Task::Assemble { explains }) => asm(alloc, explains, reader, writer, errors).number(),
-        Ok(Task::Disassemble(showing)) => {
-            report(dis(alloc, showing, reader, writer), errors).number()
-        }
-        Ok(Task::Store(_)) => report(Ok(()), errors).number(),
-        Ok(Task::Serve(_)) => report(Ok(()), errors).number(),
-        Ok(Task::Commands) => report(commands(writer), errors).number(),
-        Err(error) => show(alloc, error, writer, errors).number(),
+        Ok(asked) => do_task(alloc, asked.task(), reader, writer, errors),
+        Err(error) => show_answer(alloc, error, writer, errors).number(),
     }
 }

@@ -12,13 +12,13 @@ mod servers;
 mod theorems;
 
 pub use arguments::{
-    Server, Serving, Showing, Storing, Task, VERSION, asked_server, invalid_arguments,
-    invalid_budgets, right_arguments, right_arguments_name_a_task, right_budgets, right_flags,
+    Asked, Server, Serving, Showing, Storing, Task, VERSION, invalid_arguments, invalid_budgets,
+    read_arguments, right_arguments, right_arguments_name_a_task, right_budgets, right_flags,
     right_ports, right_services,
 };
 pub use assembly::dis;
 pub use failure::{ExitStatus, Failure};
-pub use front::tool;
+pub use front::{do_task, show_answer, tool};
 pub use reporting::refuse_arguments;
 pub use running::run;
 pub use servers::{ServeFault, run_service, run_store};

@@ -2,8 +2,7 @@
 
 use crate::compared::same;
 use crate::outcome::leaves;
-use agent::{Server, Serving, Storing, asked_server};
-use std::test::Fail;
+use agent::{Asked, Server, Serving, Storing, read_arguments};
 
 /// What `serve` alone asks for.
 const PLAIN: Serving = Serving {
@@ -158,11 +157,14 @@ const ASKED: &[(&[&str], Option<Server>)] = &[
 ];
 
 #[test]
-fn the_server_that_is_asked_for(rt: HostRuntime) -> Result<(), Fail> {
+fn the_server_that_is_asked_for(rt: HostRuntime) {
     for &(arguments, server) in ASKED {
-        same!(rt; asked_server(rt.alloc(), arguments)?, server, arguments);
+        let asked = match read_arguments(rt.alloc(), arguments) {
+            Ok(Asked::Server(server)) => Some(server),
+            Ok(Asked::Task(_)) | Err(_) => None,
+        };
+        same!(rt; asked, server, arguments);
     }
-    Ok(())
 }
 
 /// The work of `serve` is its caller's: `tool` reads and writes nothing.

@@ -1,7 +1,9 @@
 //! The program. All that it does is in the crate `agent`.
 #![tactic(auto)]
 
-use agent::{Server, asked_server, refuse_arguments, run_service, run_store, tool};
+use agent::{
+    Asked, Server, do_task, read_arguments, refuse_arguments, run_service, run_store, show_answer,
+};
 use std::io::{self, Read, Write};
 use std::process::ExitCode;
 use std::rt::{Env, Files};
@@ -50,38 +52,38 @@ fn main(rt: HostRuntime) -> ExitCode {
         Ok(arguments) => arguments,
         Err(error) => return ExitCode::from(refuse_arguments(&error, &mut errors)),
     };
-    let asked = asked_server(rt.alloc(), arguments.as_slice());
-    let _held = match &asked {
-        Ok(Some(_)) => Some(hold_closed(&rt, &mut rt.stdin(), &mut rt.stdout(), &mut errors)),
-        _ => None,
-    };
-    let status = match asked {
-        Ok(Some(Server::Store(storing))) => run_store(
-            &rt,
+    let status = match read_arguments(rt.alloc(), arguments.as_slice()) {
+        Ok(Asked::Server(server)) => {
+            let _held = hold_closed(&rt, &mut rt.stdin(), &mut rt.stdout(), &mut errors);
+            match server {
+                Server::Store(storing) => run_store(
+                    &rt,
+                    rt.alloc(),
+                    storing,
+                    rt.stdin(),
+                    &mut rt.stdout(),
+                    &mut errors,
+                ),
+                Server::Serve { serving, far, unix } => run_service(
+                    &rt,
+                    rt.alloc(),
+                    serving,
+                    far,
+                    unix,
+                    &mut rt.stdin(),
+                    &mut rt.stdout(),
+                    &mut errors,
+                ),
+            }
+        }
+        Ok(Asked::Task(task)) => do_task(
             rt.alloc(),
-            storing,
-            rt.stdin(),
-            &mut rt.stdout(),
-            &mut errors,
-        ),
-        Ok(Some(Server::Serve { serving, far, unix })) => run_service(
-            &rt,
-            rt.alloc(),
-            serving,
-            far,
-            unix,
+            task,
             &mut rt.stdin(),
             &mut rt.stdout(),
             &mut errors,
         ),
-        Ok(None) => tool(
-            rt.alloc(),
-            arguments.as_slice(),
-            &mut rt.stdin(),
-            &mut rt.stdout(),
-            &mut errors,
-        ),
-        Err(error) => refuse_arguments(&error.into(), &mut errors),
+        Err(error) => show_answer(rt.alloc(), error, &mut rt.stdout(), &mut errors).number(),
     };
     ExitCode::from(status)
 }

@@ -4,9 +4,9 @@ use Rattle.std.proofs.lemmas.Result.{err_from_is_err_and}
 use Rattle.clap.specs.Walk.{Row, Text, first_of}
 use Rattle.clap.specs.Words.{found_of, rows_of}
 use Rattle.clap.proofs.WalkLemmas.{first_value-rows}
-use Rattle.agent.specs.CommandLine.{task_named}
+use Rattle.agent.specs.CommandLine.{IfServer, IsFarAs, IsUnixAs, task_named}
 use Rattle.agent.proofs.Subcommands.{IsEntered, needed, right_enters}
-use Rattle.agent.proofs.arguments.read_asked.Goals as goal
+use Rattle.agent.proofs.arguments.read_arguments.Goals as goal
 
 module _ {X A B : Type 0} (f : X → A) (g : X → B) where
   firsts : (o : Option X) → option_map f o ≡ option_map (λ (p : A × B). p.0) (option_map (λ x. (f x, g x)) o)
@@ -49,22 +49,27 @@ unreachable-requires-in_default-task_called g c =
 pub returns-clause-ok : goal.returns-clause-ok
 returns-clause-ok g c =
     let seen = joined _ _ _ _ (c.subcommand.ensures.name ∙ firsts _ _ _) c.subcommand.ensures.rows ∙ c.in_ok-matches.ensures.ok.1 in
-    let pair = rw c.in-Some.is at seen in
-    (c.in_ok-matches.ensures.ok.0, ap (option_and_then (λ p. task_named p.0 p.1)) (sym pair) ∙ sym c.task_called.ensures ∙ c.in-Some-task_called.is)
+    let pair = rw c.in-Some.is at seen in (
+      c.in_ok-matches.ensures.ok.0,
+      ap (option_and_then (λ p. task_named p.0 p.1)) (sym pair) ∙ sym c.task_called.ensures ∙ c.in-Some-task_called.is
+          ∙ ap Some (sym c.new.ensures.task),
+    )
 
 pub returns-clause-far : goal.returns-clause-far
 returns-clause-far g c =
     let seen = joined _ _ _ _ (c.subcommand.ensures.name ∙ firsts _ _ _) c.subcommand.ensures.rows ∙ c.in_ok-matches.ensures.ok.1 in
     let pair = rw c.in-Some.is at seen in
-    c.get_str.ensures ∙ first_value-rows (found_of c.in-Some.inner.now) (codes "far")
-    ∙ ap (λ (o : Option (Text × List Row)). option_and_then (λ p. first_of (codes "far") p.1) o) pair
+    let told = c.get_str.ensures ∙ first_value-rows (found_of c.in-Some.inner.now) (codes "far")
+    ∙ ap (λ (o : Option (Text × List Row)). option_and_then (λ p. first_of (codes "far") p.1) o) pair in
+    subst (λ address. IfServer (IsFarAs address) c.new.result) told c.new.ensures.far
 
 pub returns-clause-unix : goal.returns-clause-unix
 returns-clause-unix g c =
     let seen = joined _ _ _ _ (c.subcommand.ensures.name ∙ firsts _ _ _) c.subcommand.ensures.rows ∙ c.in_ok-matches.ensures.ok.1 in
     let pair = rw c.in-Some.is at seen in
-    c.get_str-2.ensures ∙ first_value-rows (found_of c.in-Some.inner.now) (codes "unix")
-    ∙ ap (λ (o : Option (Text × List Row)). option_and_then (λ p. first_of (codes "unix") p.1) o) pair
+    let told = c.get_str-2.ensures ∙ first_value-rows (found_of c.in-Some.inner.now) (codes "unix")
+    ∙ ap (λ (o : Option (Text × List Row)). option_and_then (λ p. first_of (codes "unix") p.1) o) pair in
+    subst (λ path. IfServer (IsUnixAs path) c.new.result) told c.new.ensures.unix
 
 pub returns-in_err-matches-clause-err : goal.returns-in_err-matches-clause-err
 returns-in_err-matches-clause-err g c =

@@ -1,6 +1,6 @@
 use Rattle.std.proofs.Common.{◌∙◌}
 use Rattle.agent.proofs.ErrorShown.{error_shown}
-use Rattle.agent.proofs.front.show.Goals as goal
+use Rattle.agent.proofs.front.show_answer.Goals as goal
 
 pub returns-in-Ok-to_string : goal.returns-in-Ok-to_string
 returns-in-Ok-to_string g c =
