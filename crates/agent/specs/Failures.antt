@@ -4,6 +4,10 @@ use Rattle.loader.specs.Refusals.{why_name}
 use Rattle.loader.specs.declared.loading.LoadError.{LoadError}
 use Rattle.loader.specs.declared.loading.Why.TheVariants as why
 use Rattle.asm_grammar.specs.Reasons as reasons
+use Rattle.asm_grammar.specs.declared.why.Why.TheVariants as reason
+use Rattle.assembler.specs.declared.error.AsmError.{AsmError}
+use Rattle.console.specs.declared.fault.DriveFault.{DriveFault}
+use Rattle.console.specs.declared.fault.DriveFault.TheVariants as drive
 use Rattle.agent.specs.declared.failure.ExitStatus.{ExitStatus}
 use Rattle.agent.specs.declared.failure.ExitStatus.TheVariants.{Done, Refused, InvalidArguments, Failed}
 use Rattle.agent.specs.declared.failure.Failure.{Failure}
@@ -28,6 +32,15 @@ status_of failure.NoMemory = Failed
 -- Code that can't be loaded is refused, unless memory ran out.
 abbrev pub FailsToLoad : LoadError → Failure → Type 0
 FailsToLoad error failed = ((error.why ≡ why.Memory) × (failed ≡ failure.NoMemory)) ⊎ ((error.why ≢ why.Memory) × (failed ≡ failure.Refused error))
+
+-- A text that can't be assembled has a wrong line, unless memory ran out.
+abbrev pub FailsToAssemble : AsmError → Failure → Type 0
+FailsToAssemble error failed = ((error.why ≡ reason.Memory) × (failed ≡ failure.NoMemory)) ⊎ ((error.why ≢ reason.Memory) × (failed ≡ failure.WrongLine error))
+
+-- the failure of a conversation that ended before its input did
+abbrev pub failure_of_drive : DriveFault → Failure
+failure_of_drive drive.Read = failure.Read
+failure_of_drive drive.Write = failure.Write
 
 -- what is said of a failure
 abbrev pub failure_text : Failure → List ℕ

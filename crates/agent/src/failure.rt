@@ -1,10 +1,11 @@
 //! What the program ends with.
 ghost use Rattle.std.specs.Prelude.{◌≡◌, ◌⊎◌, ◌≤◌, ◌++◌, ◌∷◌, [], length};
 ghost use Rattle.asm_grammar.specs.Reasons.{why_name};
-ghost use Rattle.agent.specs.Failures.{FailsToLoad, status_number, failure_line, status_of};
+ghost use Rattle.agent.specs.Failures.{FailsToAssemble, FailsToLoad, failure_of_drive, status_number, failure_line, status_of};
 ghost use Rattle.agent.specs.declared.failure.Failure.TheVariants.{Read as ReadFailed, Write as WriteFailed, NoMemory as OutOfMemory};
 
 use assembler::{AsmError, Why};
+use console::DriveFault;
 use loader::LoadError;
 use std::alloc::AllocError;
 use streams::{InputFault, Line, NO_MEMORY, READ_FAULT, WRITE_FAULT, WriteFault};
@@ -85,6 +86,28 @@ impl From<LoadError> for Failure {
             return Failure::Refused(error);
         }
         Failure::NoMemory
+    }
+}
+
+impl From<AsmError> for Failure {
+    ghost from_gives = { FailsToAssemble };
+
+    fn from(error: AsmError) -> Failure {
+        if error.why != Why::Memory {
+            return Failure::WrongLine(error);
+        }
+        Failure::NoMemory
+    }
+}
+
+impl From<DriveFault> for Failure {
+    ghost from_gives = { λ ended failure. failure ≡ failure_of_drive ended };
+
+    fn from(ended: DriveFault) -> Failure {
+        match ended {
+            DriveFault::Read => Failure::Read,
+            DriveFault::Write => Failure::Write,
+        }
     }
 }
 

@@ -4,7 +4,7 @@ ghost use Rattle.world.specs.WorldState.{state_of, world_start};
 ghost use Rattle.agent.specs.RunLeaves.{CommandsLeave, RunLeaves};
 
 use crate::failure::Failure;
-use console::{Console, DriveFault, drive};
+use console::{Console, drive};
 use far_store::OwnStore;
 use std::alloc::{AllocError, Global};
 use std::io::{Read, Write};
@@ -30,11 +30,8 @@ pub(crate) fn do_commands<R: Read, W: Write>(
 {
     let mut world = make_world(alloc, budget)?;
     let mut console = Console::new(alloc)?;
-    match drive(reader, writer, &mut console, &mut world) {
-        Ok(()) => Ok(world),
-        Err(DriveFault::Read) => Err(Failure::Read),
-        Err(DriveFault::Write) => Err(Failure::Write),
-    }
+    drive(reader, writer, &mut console, &mut world)?;
+    Ok(world)
 }
 
 /// Does the commands that the reader has, from a world with no machine and no object, and writes

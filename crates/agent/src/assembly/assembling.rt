@@ -12,7 +12,7 @@ use crate::assembly::explained::report_explained;
 use crate::assembly::explaining::explanation;
 use crate::failure::{ExitStatus, Failure};
 use crate::reporting::report;
-use assembler::{Why, assemble};
+use assembler::assemble;
 use loader::encode_all;
 use std::alloc::{AllocError, Global};
 use std::io::{Read, Write};
@@ -52,11 +52,7 @@ fn assemble_input(alloc: Global, input: &[u8]) -> Result<Vec<u8>, Failure>
         return Err(Failure::InputTooLong);
     }
     let text = text_of(alloc, input)?;
-    let instrs = match assemble(alloc, text.as_str()) {
-        Ok(instrs) => instrs,
-        Err(error) if error.why == Why::Memory => return Err(Failure::NoMemory),
-        Err(error) => return Err(Failure::WrongLine(error)),
-    };
+    let instrs = assemble(alloc, text.as_str())?;
     let code = encode_all(alloc, &instrs)?;
     Ok(code)
 }

@@ -1,9 +1,10 @@
 //! `serve`: shares objects and machines with clients.
-ghost use Rattle.std.specs.Prelude.{◌≡◌, ◌&&◌, is_some, false, ℕ, List, ◌++◌, ◌∷◌, [], None, Some, option_map, IfErr, IfOk, IfSome, OnOk};
+ghost use Rattle.std.specs.Prelude.{◌≡◌, ◌&&◌, is_some, ℕ, List, ◌++◌, ◌∷◌, [], None, Some, option_map, IfErr, IfOk, IfSome, OnOk};
 ghost use Rattle.world.specs.WorldState.{state_of};
 ghost use Rattle.ship_service.specs.Listening.{FindsHere, SaysAs, TellsClosingOf};
-ghost use Rattle.agent.specs.ServeLeaves.{IsAddress, IsDoorName, LeavesBy, ReportsServe, ReportsService, ServeLeaves, ServesOver, Unconnected};
+ghost use Rattle.agent.specs.ServeLeaves.{IsAddress, IsDoorName, ReportsServe, ReportsService, ServeLeaves, ServesOver, Unconnected};
 ghost use Rattle.agent.specs.ServeLeaves.{listen_text, serve_status, serve_text};
+ghost use Rattle.agent.specs.declared.servers.serving.ServeFault.{ServeFault};
 
 use crate::arguments::Serving;
 use crate::failure::{ExitStatus, Failure, FailureLine, line_of};
@@ -13,14 +14,14 @@ use crate::servers::ledger::Ledger;
 use crate::servers::noted_stream::NotedStream;
 use crate::servers::notes::{Note, Notes};
 use far_server::Journal;
-use far_store::{FarStore, OwnStore};
+use far_store::{FarStore, OwnStore, StoreFault};
 use far_stream::{Buffered, DeferringStore};
 use listener::{Door, NET_FAULT, Name, SocketFile, bind, bind_file, file_name, port_name};
 use ship_service::{ListenFault, Plan, listen_over};
-use std::alloc::Global;
+use std::alloc::{AllocError, Global};
 use std::fs::File;
 use std::io::{self, Eprint, Read, Write};
-use std::net::{Net, SocketAddr, TcpListener, TcpStream};
+use std::net::{AddrParseError, Net, SocketAddr, TcpListener, TcpStream};
 use std::rt::Files;
 use std::sync::Wait;
 use std::thread::Threads;
@@ -46,6 +47,47 @@ pub enum ServeFault {
     Bind,
     /// It ended later, for this reason.
     Listen(ListenFault),
+}
+
+impl From<AddrParseError> for ServeFault {
+    ghost from_gives = { λ _ fault. fault ≡ ServeFault.Address };
+
+    fn from(_refused: AddrParseError) -> ServeFault {
+        ServeFault::Address
+    }
+}
+
+// of a first request: a fault of a later one ends no service
+impl From<StoreFault> for ServeFault {
+    ghost from_gives = { λ _ fault. fault ≡ ServeFault.Unanswered };
+
+    fn from(_failed: StoreFault) -> ServeFault {
+        ServeFault::Unanswered
+    }
+}
+
+impl From<Failure> for ServeFault {
+    ghost from_gives = { λ failure fault. fault ≡ ServeFault.Setup failure };
+
+    fn from(failure: Failure) -> ServeFault {
+        ServeFault::Setup(failure)
+    }
+}
+
+impl From<ListenFault> for ServeFault {
+    ghost from_gives = { λ ended fault. fault ≡ ServeFault.Listen ended };
+
+    fn from(ended: ListenFault) -> ServeFault {
+        ServeFault::Listen(ended)
+    }
+}
+
+impl From<AllocError> for ServeFault {
+    ghost from_gives = { λ _ fault. fault ≡ ServeFault.Listen ListenFault.Memory };
+
+    fn from(_refused: AllocError) -> ServeFault {
+        ServeFault::Listen(ListenFault::Memory)
+    }
 }
 
 /// The line of an object that isn't here.
@@ -259,19 +301,14 @@ where
         (λ input. ServesOver F F.RETURNS serving.budget (option_map (λ text. text.now) unix.entry) input (W.contents writer.old) (W.contents writer.new)
         (I.remaining reader.new) result) }
 {
-    let world: World<OwnStore> = match do_commands(alloc, serving.budget, reader, writer) {
-        Ok(world) => world,
-        Err(failure) => return Err(ServeFault::Setup(failure)),
-    };
+    let world = do_commands(alloc, serving.budget, reader, writer)?;
     let Ok(entrance) = open_entrance(rt, alloc, serving.port, unix, &notes) else {
         return Err(ServeFault::Bind);
     };
-    match listen_at(
+    listen_at(
         rt, alloc, serving, entrance, writer, world, store, far, &notes,
-    ) {
-        Ok(()) => Ok(()),
-        Err(fault) => Err(ServeFault::Listen(fault)),
-    }
+    )?;
+    Ok(())
 }
 
 /// A stream to this address; connecting, and then each read and each write, takes so long at most.
@@ -296,14 +333,10 @@ where
     R: Clock + Eprint + Copy,
     ensures { IfErr result (λ fault. (far : List ℕ) → IsAddress far → Unconnected far fault) }
 {
-    let Ok(buffered) = Buffered::new(alloc, stream) else {
-        return Err(ServeFault::Listen(ListenFault::Memory));
-    };
+    let buffered = Buffered::new(alloc, stream)?;
     let mut store = DeferringStore::new(alloc, buffered);
-    match store.reach() {
-        Ok(()) => Ok(store),
-        Err(_) => Err(ServeFault::Unanswered),
-    }
+    store.reach()?;
+    Ok(store)
 }
 
 /// The far store at a server, of which this is the address, and another handle of its stream, if it can be had. A read or write
@@ -321,58 +354,19 @@ where
     ensures ok { OnOk result (IsAddress far.now) }
     ensures err { IfErr result (Unconnected far.now) }
 {
-    let Ok(address) = far.parse::<SocketAddr>() else {
-        return Err(ServeFault::Address);
-    };
+    let address = far.parse::<SocketAddr>()?;
     let longest = Duration::from_millis(u64::from(timeout));
     match connect_within(rt, address, longest) {
         Ok(stream) => {
             notes.write(Note::Connected(address));
             let handle = stream.try_clone().ok();
-            match reach(alloc, NotedStream::new(*rt, stream, longest, notes)) {
-                Ok(store) => Ok((store, handle)),
-                Err(fault) => Err(fault),
-            }
+            let store = reach(alloc, NotedStream::new(*rt, stream, longest, notes))?;
+            Ok((store, handle))
         }
         Err(error) => {
             notes.unreached(address, &error);
             Err(ServeFault::Unreachable)
         }
-    }
-}
-
-/// Serves over the far server of this address, or over a store of this process where there is none.
-fn serve_with<R, I: Read, W: Write>(
-    rt: &R,
-    alloc: Global,
-    serving: Serving,
-    far: Option<&str>,
-    unix: Option<&str>,
-    reader: &mut I,
-    writer: &mut W,
-) -> Result<(), ServeFault>
-where
-    R: Net<Listener = TcpListener, Stream = TcpStream>
-        + Files<File = File>
-        + Threads
-        + Wait
-        + Clock
-        + Eprint
-        + Copy
-        + Send
-        + Sync,
-    ensures { IfSome (I.remaining reader.old)
-        (λ input. LeavesBy false serving.budget (option_map (λ text. text.now) far.entry) (option_map (λ text. text.now) unix.entry) input
-        (W.contents writer.old) (W.contents writer.new) (I.remaining reader.new) result) }
-{
-    let notes = Notes::new(*rt, serving.verbose);
-    let Some(address) = far else {
-        let store = OwnStore::new(alloc);
-        return serve_over(rt, alloc, serving, store, None, unix, notes, reader, writer);
-    };
-    match connect(rt, alloc, address, serving.far_timeout, notes) {
-        Ok((store, far)) => serve_over(rt, alloc, serving, store, far, unix, notes, reader, writer),
-        Err(fault) => Err(fault),
     }
 }
 
@@ -383,8 +377,9 @@ fn is_twofold(serving: Serving, unix: Option<&str>) -> bool
     serving.has_port && unix.is_some()
 }
 
-/// The same, unless both a port and a socket file are asked for: then it reads nothing.
-fn serve_at<R, I: Read, W: Write>(
+/// Serves over the far server of this address, or over a store of this process where there is none. Reads nothing if both a port
+/// and a socket file are asked for.
+fn serve_with<R, I: Read, W: Write>(
     rt: &R,
     alloc: Global,
     serving: Serving,
@@ -410,7 +405,13 @@ where
     if is_twofold(serving, unix) {
         return Err(ServeFault::Doors);
     }
-    serve_with(rt, alloc, serving, far, unix, reader, writer)
+    let notes = Notes::new(*rt, serving.verbose);
+    let Some(address) = far else {
+        let store = OwnStore::new(alloc);
+        return serve_over(rt, alloc, serving, store, None, unix, notes, reader, writer);
+    };
+    let (store, far) = connect(rt, alloc, address, serving.far_timeout, notes)?;
+    serve_over(rt, alloc, serving, store, far, unix, notes, reader, writer)
 }
 
 /// Connects to the far server of this address, `HOST:PORT`, if one is given: objects that leave go there, and stay in this
@@ -448,6 +449,6 @@ where
         (λ input. ReportsServe (ServeLeaves serving (option_map (λ text. text.now) far.entry) (option_map (λ text. text.now) unix.entry) input
         (W.contents writer.old) (W.contents writer.new) (I.remaining reader.new)) (E.contents errors.old) (E.contents errors.new) result) }
 {
-    let outcome = serve_at(rt, alloc, serving, far, unix, reader, writer);
+    let outcome = serve_with(rt, alloc, serving, far, unix, reader, writer);
     report_service(outcome, errors)
 }
