@@ -5,6 +5,7 @@ ghost use Rattle.ship_service.specs.Listening.{FindsHere, SaysAs, TellsClosingOf
 ghost use Rattle.agent.specs.ServeLeaves.{IsAddress, IsDoorName, ReportsServe, ReportsService, ServeLeaves, ServesOver, Unconnected};
 ghost use Rattle.agent.specs.ServeLeaves.{listen_text, serve_status, serve_text};
 ghost use Rattle.agent.specs.declared.servers.serving.ServeFault.{ServeFault};
+ghost use Rattle.ship_service.specs.declared.listening.ListenFault.{ListenFault};
 
 use crate::arguments::Serving;
 use crate::failure::{ExitStatus, Failure, FailureLine, line_of};

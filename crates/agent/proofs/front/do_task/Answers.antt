@@ -27,43 +27,43 @@ explained_run None explains work before after status number says is = tt
 explained_run (Some input) explains work before after status number says is = (says.0, status, says.1, says.2, is)
 
 pub returns-in-Run : goal.returns-in-Run
-returns-in-Run g c =
-    reported_run _ (λ input. RunLeaves c.in-Run.budget input (g.W.Write.contents c.args.writer.now) (g.W.Write.contents c.run.new.writer)
-    (g.R.Read.remaining c.run.new.reader)) _ _ _ _ _ c.run.ensures c.report.ensures c.number.ensures
+returns-in-Run g c = rw c.in-Run.is
+    (reported_run _ (λ input. RunLeaves c.in-Run.budget input (g.W.Write.contents c.args.writer.now) (g.W.Write.contents c.run.new.writer)
+    (g.R.Read.remaining c.run.new.reader)) _ _ _ _ _ c.run.ensures c.report.ensures c.number.ensures)
 
 pub returns-in-Check : goal.returns-in-Check
-returns-in-Check g c = (
+returns-in-Check g c = rw c.in-Check.is (
   explained_run _ _ (λ input. CheckLeaves input (g.W.Write.contents c.args.writer.now) (g.W.Write.contents c.check.new.writer)) _ _ _ _
       c.check.ensures.reported c.number-in-Check.ensures,
   c.check.ensures.consumed,
 )
 
 pub returns-in-Assemble : goal.returns-in-Assemble
-returns-in-Assemble g c = (
+returns-in-Assemble g c = rw c.in-Assemble.is (
   explained_run _ _ (λ input. AsmLeaves input (g.W.Write.contents c.args.writer.now) (g.W.Write.contents c.asm.new.writer)) _ _ _ _
       c.asm.ensures.reported c.number-in-Assemble.ensures,
   c.asm.ensures.consumed,
 )
 
 pub returns-in-Disassemble : goal.returns-in-Disassemble
-returns-in-Disassemble g c = (
+returns-in-Disassemble g c = rw c.in-Disassemble.is (
   reported_run _ (λ input. DisLeaves c.in-Disassemble.showing input (g.W.Write.contents c.args.writer.now) (g.W.Write.contents c.dis.new.writer))
       _ _ _ _ _ c.dis.ensures.left c.report-in-Disassemble.ensures c.number-in-Disassemble.ensures,
   c.dis.ensures.consumed,
 )
 
 pub returns-in-Store : goal.returns-in-Store
-returns-in-Store g c =
-    does_nothing (g.R.Read.remaining c.args.reader.now) (g.W.Write.contents c.args.writer.now) _ _ _ _ c.report-in-Store.ensures
-    c.number-in-Store.ensures
+returns-in-Store g c = rw c.in-Store.is
+    (does_nothing (g.R.Read.remaining c.args.reader.now) (g.W.Write.contents c.args.writer.now) _ _ _ _ c.report-in-Store.ensures
+    c.number-in-Store.ensures)
 
 pub returns-in-Serve : goal.returns-in-Serve
-returns-in-Serve g c =
-    does_nothing (g.R.Read.remaining c.args.reader.now) (g.W.Write.contents c.args.writer.now) _ _ _ _ c.report-in-Serve.ensures
-    c.number-in-Serve.ensures
+returns-in-Serve g c = rw c.in-Serve.is
+    (does_nothing (g.R.Read.remaining c.args.reader.now) (g.W.Write.contents c.args.writer.now) _ _ _ _ c.report-in-Serve.ensures
+    c.number-in-Serve.ensures)
 
 pub returns-in-Commands : goal.returns-in-Commands
-returns-in-Commands g c = (
+returns-in-Commands g c = rw c.in-Commands.is (
   (c.commands.result, c.report-in-Commands.result, c.commands.ensures, c.report-in-Commands.ensures, c.number-in-Commands.ensures),
   Keeps-refl (g.R.Read.remaining c.args.reader.now),
 )

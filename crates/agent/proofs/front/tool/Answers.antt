@@ -11,11 +11,11 @@ use Rattle.agent.proofs.front.tool.Goals as goal
 pub returns-in-Err-clause-right : goal.returns-in-Err-clause-right
 returns-in-Err-clause-right g c task right asked =
     memory_leaves task (g.R.Read.remaining c.args.reader.now) _ _ _ _ _ c.in-Err.error c.show_answer.result _ right c.in-Err.ensures.err
-    c.show_answer.ensures c.number-in-Err.ensures
+    c.show_answer.ensures c.number.ensures
 
 pub returns-in-Err-clause-wrong : goal.returns-in-Err-clause-wrong
 returns-in-Err-clause-wrong g c wrong =
-    ((kind_of c.in-Err.error, c.show_answer.result, c.in-Err.ensures.err, c.show_answer.ensures, c.number-in-Err.ensures), Keeps-refl (g.R.Read.remaining c.args.reader.now))
+    ((kind_of c.in-Err.error, c.show_answer.result, c.in-Err.ensures.err, c.show_answer.ensures, c.number.ensures), Keeps-refl (g.R.Read.remaining c.args.reader.now))
 
 -- ---- a task was done
 
