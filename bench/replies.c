@@ -1,7 +1,8 @@
 /* A service in plain C that answers `get`, for bench/service.py and bench/replies.py: replies CONNECTIONS. It listens on 127.0.0.1,
-   says on which port, and answers each line of so many clients, each on a thread of its own, by one write. It reads the grammar of
-   docs/PROTOCOL.md: it finds the command among all, and numbers are decimal or hex. Other commands than `get` are answered
-   `unserved`. There is an object of 64 bytes for each client; threads share them, so a reply takes the object's turn. */
+   says on which port, and answers the lines of so many clients, each on a thread of its own. As the agent does, it writes the replies to
+   one piece of its input together. It reads the grammar of docs/PROTOCOL.md: it finds the command among all, and numbers are decimal or
+   hex. Other commands than `get` are answered `unserved`. There is an object of 64 bytes for each client; threads share them, so a reply
+   takes the object's turn. */
 #include "flat_shared.h"
 #include <arpa/inet.h>
 #include <netinet/tcp.h>
@@ -17,15 +18,19 @@
 #define LINE_LIMIT 70000
 #define RANGE_LIMIT 4096
 #define PIECE 4096
+#define REPLY_LIMIT (2 * RANGE_LIMIT + 16)
+/* Room for the replies to a piece of short lines, or for one long reply. */
+#define REPLIES 16384
 
 static struct flat_object table[FLAT_TABLE];
 
-/* A client, with what it has open, the line that came in part, and the reply. */
+/* A client, with what it has open, the line that came in part, and the replies that aren't written yet. */
 struct connection {
     pthread_t thread;
     int stream;
     struct flat_machine actor;
-    char line[LINE_LIMIT + PIECE], reply[2 * RANGE_LIMIT + 16];
+    char line[LINE_LIMIT + PIECE], replies[REPLIES];
+    size_t waiting;
 };
 
 static const char *const COMMANDS[] = {
@@ -101,26 +106,34 @@ static void close_scopes(struct flat_machine *actor)
     }
 }
 
-/* The reply to a line, and its length. */
-static size_t answer(struct connection *c, const char *line, const char *end)
+/* Puts the reply to a line there, and says how long it is. */
+static size_t answer(struct connection *c, char *reply, const char *line, const char *end)
 {
     uint64_t object, offset, length;
     const char *at = memchr(line, ' ', (size_t)(end - line));
     if (!at) at = end;
     size_t which = command(line, (size_t)(at - line));
-    if (which != GET) return put(c->reply, which == COMMAND_COUNT ? "bad\n" : "unserved\n");
+    if (which != GET) return put(reply, which == COMMAND_COUNT ? "bad\n" : "unserved\n");
     if (!number(&at, end, 1, FLAT_TABLE - 1, &object) || !number(&at, end, 0, 65535, &offset)
         || !number(&at, end, 1, RANGE_LIMIT, &length) || at != end)
-        return put(c->reply, "bad\n");
+        return put(reply, "bad\n");
     struct reached found = reach(&c->actor, object << 32 | offset, length);
     size_t told;
     if (found.bytes) {
-        told = put_bytes(c->reply, found.bytes, length);
+        told = put_bytes(reply, found.bytes, length);
         leave(found);
     } else
-        told = put(c->reply, found.stop == FLAT_OUTSIDE ? "outside\n" : found.stop == FLAT_AWAY ? "away\n" : "busy\n");
+        told = put(reply, found.stop == FLAT_OUTSIDE ? "outside\n" : found.stop == FLAT_AWAY ? "away\n" : "busy\n");
     close_scopes(&c->actor);
     return told;
+}
+
+/* Writes the replies that aren't written yet. Says whether all of them went. */
+static int written(struct connection *c)
+{
+    size_t length = c->waiting;
+    c->waiting = 0;
+    return length == 0 || write(c->stream, c->replies, length) == (ssize_t)length;
 }
 
 /* Answers the lines that came, until the client ends. */
@@ -132,9 +145,10 @@ static void *converse(void *of)
     while (held < LINE_LIMIT && (got = read(c->stream, c->line + held, PIECE)) > 0) {
         char *line = c->line, *end = c->line + held + got, *newline;
         for (; (newline = memchr(line, '\n', (size_t)(end - line))); line = newline + 1) {
-            size_t length = answer(c, line, newline);
-            if (write(c->stream, c->reply, length) != (ssize_t)length) return NULL;
+            if (REPLIES - c->waiting < REPLY_LIMIT && !written(c)) return NULL;
+            c->waiting += answer(c, c->replies + c->waiting, line, newline);
         }
+        if (!written(c)) return NULL;
         held = (size_t)(end - line);
         memmove(c->line, line, held);
     }
