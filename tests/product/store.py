@@ -324,12 +324,13 @@ def want_left_waiting(stream: socket.socket, seconds: float, what: str) -> None:
     want(not select.select([stream], [], [], seconds)[0], what)
 
 
-def ends_after(server: Server, clients: int, what: str) -> float:
-    """How long the server takes to end with its input. It has told of so many clients."""
+def ends_after(server: Server, clients: int, shortages: int, what: str) -> float:
+    """How long the server takes to end with its input. It has told of so many clients, and so often that one couldn't be accepted."""
     began = time.monotonic()
     status, output, errors = server.end()
     took = time.monotonic() - began
     told = [f"listening on 127.0.0.1:{server.port}", *(f"client {k + 1} {did}" for k in range(clients) for did in ("came", "went"))]
+    told += ["clients wait to be accepted: no descriptor is left"] * shortages
     notes, others = noted(errors)
     want_equal((status, output, others, sorted(notes)), (0, b"", [], sorted(told)), what)
     return took
@@ -350,7 +351,7 @@ def show_few_files(program: str) -> None:
     def took(more: int) -> float:
         server = few_files(program, more)
         time.sleep(0.1)
-        return ends_after(server, 0, f"the end of a server that may open {more} files for clients")
+        return ends_after(server, 0, int(more == 0), f"the end of a server that may open {more} files for clients")
 
     for more in range(3):
         want_end(lambda: took(more), f"the end of a server that may open {more} files for clients")
@@ -374,7 +375,7 @@ def show_rest(program: str) -> None:
             want(used < IDLE, f"{what} runs for {used:.3f} s in {LONG_REST} s")
             for stream in streams:
                 ask(stream, f"a client beside one that waits, of {what}")
-            return ends_after(server, clients, f"the end of {what}")
+            return ends_after(server, clients, 1, f"the end of {what}")
 
     for clients, spare in ((0, 0), (0, 1), (2, 0), (2, 1)):
         what = f"a server of {clients} clients that may open {spare} files more"
@@ -399,7 +400,7 @@ def served_late(program: str) -> float:
         resource.prlimit(server.process.pid, resource.RLIMIT_NOFILE, (OWN_FILES + 5, OWN_FILES + 5))
         want_equal(hear(third, HEAD.size), frame(REFUSED_ID, 1), "the third client, once there may be files for it")
         ask(second, "the second client beside the third")
-        return ends_after(server, 3, "the end of a server whose clients waited")
+        return ends_after(server, 3, 2, "the end of a server whose clients waited")
 
 
 def show_broken_listener(program: str) -> None:

@@ -97,13 +97,12 @@ memory_leaves task given out_before out_after before after kinds error status nu
     let says = rw (only_memory kinds error right has) at shown in left_by task given out_before out_after before after status number says.0 says.1 is
 
 -- nothing is done, and that is told
-pub does_nothing : (given out before after : Option (List ℕ)) (status : ExitStatus) (number : ℕ) → Reports before after (Ok tt) status
-    → number ≡ status_number status → LeavesUndone (record {
-      input = given;
-      unread = given;
-      out_before = out;
-      out_after = out;
-      errors_before = before;
-      errors_after = after;
-    }) number
-does_nothing given out before after status number says is = (Keeps-refl given, Keeps-refl out, (Ok tt, status, tt, says, is))
+pub does_nothing : (given out before after : Option (List ℕ)) (status : ExitStatus) → Reports before after (Ok tt) status → LeavesUndone (record {
+  input = given;
+  unread = given;
+  out_before = out;
+  out_after = out;
+  errors_before = before;
+  errors_after = after;
+}) (status_number status)
+does_nothing given out before after status says = (Keeps-refl given, Keeps-refl out, (Ok tt, status, tt, says, refl))

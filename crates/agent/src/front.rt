@@ -3,6 +3,7 @@ ghost use Rattle.std.specs.Prelude.{◌≡◌, ◌≢◌, [], map, Some};
 ghost use Rattle.clap.specs.Words.{kind_of};
 ghost use Rattle.agent.specs.CommandLine.{faults_of, task_of};
 ghost use Rattle.agent.specs.ErrorShown.{Shows, ShowsError, ShowsHelp, ShowsVersion, version_line};
+ghost use Rattle.agent.specs.Failures.{status_number};
 ghost use Rattle.agent.specs.TaskLeaves.{TaskLeaves, WrongLeaves};
 
 use crate::arguments::{Task, VERSION, read_arguments};
@@ -104,7 +105,7 @@ pub fn do_task<R: Read, W: Write, E: Write>(
     reader: &mut R,
     writer: &mut W,
     errors: &mut E,
-) -> u8
+) -> ExitStatus
     ensures { TaskLeaves task (record {
       input = R.remaining reader.old;
       unread = R.remaining reader.new;
@@ -112,16 +113,16 @@ pub fn do_task<R: Read, W: Write, E: Write>(
       out_after = W.contents writer.new;
       errors_before = E.contents errors.old;
       errors_after = E.contents errors.new;
-    }) result }
+    }) (status_number result) }
 {
     match task {
-        Task::Run { budget } => report(run(alloc, budget, reader, writer), errors).number(),
-        Task::Check { explains } => check(alloc, explains, reader, writer, errors).number(),
-        Task::Assemble { explains } => asm(alloc, explains, reader, writer, errors).number(),
-        Task::Disassemble(showing) => report(dis(alloc, showing, reader, writer), errors).number(),
-        Task::Store(_) => report(Ok(()), errors).number(),
-        Task::Serve(_) => report(Ok(()), errors).number(),
-        Task::Commands => report(commands(writer), errors).number(),
+        Task::Run { budget } => report(run(alloc, budget, reader, writer), errors),
+        Task::Check { explains } => check(alloc, explains, reader, writer, errors),
+        Task::Assemble { explains } => asm(alloc, explains, reader, writer, errors),
+        Task::Disassemble(showing) => report(dis(alloc, showing, reader, writer), errors),
+        Task::Store(_) => report(Ok(()), errors),
+        Task::Serve(_) => report(Ok(()), errors),
+        Task::Commands => report(commands(writer), errors),
     }
 }
 
@@ -158,7 +159,7 @@ pub fn tool<'a, S: AsStr, R: Read, W: Write, E: Write>(
         }) result }
 {
     match read_arguments(alloc, arguments) {
-        Ok(asked) => do_task(alloc, asked.task(), reader, writer, errors),
+        Ok(asked) => do_task(alloc, asked.task(), reader, writer, errors).number(),
         Err(error) => show_answer(alloc, error, writer, errors).number(),
     }
 }

@@ -82,7 +82,8 @@ fn main(rt: HostRuntime) -> ExitCode {
             &mut rt.stdin(),
             &mut rt.stdout(),
             &mut errors,
-        ),
+        )
+        .number(),
         Err(error) => show_answer(rt.alloc(), error, &mut rt.stdout(), &mut errors).number(),
     };
     ExitCode::from(status)

@@ -12,29 +12,19 @@ pub enum Refusal {
     NoThread,
 }
 
-/// Told of what happens to a server, by each of its threads. What it leaves out is passed over.
-pub trait Journal {
+/// What happens to a server.
+#[derive(Drop, Debug)]
+pub enum ServerEvent {
     /// This port can't be listened on.
-    fn refused_port(&self, _port: u16, _error: &Error) {}
-
+    PortRefused(u16, Error),
     /// This port is listened on.
-    fn listening(&self, _port: u16) {}
-
+    Listening(u16),
     /// The client of this number came.
-    fn came(&self, _client: u64) {}
-
+    Came(u64),
     /// It went, or was given up.
-    fn went(&self, _client: u64, _outcome: Result<(), StreamFault>) {}
-
+    Went(u64, Result<(), StreamFault>),
     /// A client was refused.
-    fn refused(&self, _why: Refusal) {}
-
-    /// No client can be accepted for now, for this reason. Told once until one is accepted.
-    fn short(&self, _error: &Error) {}
+    Refused(Refusal),
+    /// No client can be accepted for now, for this reason. Noted once until one is accepted.
+    Short(Error),
 }
-
-/// No journal: nothing is written down.
-#[derive(Clone, Copy, Drop, Debug, PartialEq, Eq)]
-pub struct Unwritten;
-
-impl Journal for Unwritten {}

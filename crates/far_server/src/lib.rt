@@ -13,6 +13,7 @@ mod threads;
 
 pub use clients::CLIENT_LIMIT;
 pub use fault::ServerFault;
-pub use journal::{Journal, Refusal, Unwritten};
+pub use journal::{Refusal, ServerEvent};
 pub use limits::{Limits, UNLIMITED};
+pub use listener::{Journal, Unwritten};
 pub use listening::run_server;

@@ -7,11 +7,11 @@ ghost use Rattle.far_server.specs.Told.{Tells};
 
 use crate::ended::ClientEnd;
 use crate::fault::ServerFault;
-use crate::journal::Journal;
+use crate::journal::ServerEvent;
 use crate::limits::Limits;
 use crate::threads::Server;
 use crossbeam_channel::Receiver;
-use listener::{Bell, announce, bind};
+use listener::{Bell, Journal, announce, bind};
 use std::alloc::Global;
 use std::io::{self, Read, Write};
 use std::net::{Net, SocketAddr, TcpListener, TcpStream};
@@ -80,14 +80,14 @@ where
         + Send
         + 'static,
     I: Read + Send + Drop + 'static,
-    J: Journal + Copy + Sync + Send + 'static,
+    J: Journal<ServerEvent> + Copy + Sync + Send + 'static,
     ensures announced { AnnouncesAs port (W.contents writer.old) (W.contents writer.new) result }
     ensures told { Tells (E.contents errors.old) (E.contents errors.new) }
 {
     let (listener, address, bell) = match bind_with_bell(rt, port) {
         Ok(bound) => bound,
         Err(error) => {
-            journal.refused_port(port, &error);
+            journal.note(ServerEvent::PortRefused(port, error));
             return Err(ServerFault::Net);
         }
     };
@@ -98,7 +98,7 @@ where
         server.stop(rt);
         return Err(ServerFault::NoMemory);
     };
-    journal.listening(address.port());
+    journal.note(ServerEvent::Listening(address.port()));
     if announce_asked(port, address.port(), writer).is_err() {
         server.stop(rt);
         return Err(ServerFault::Write);

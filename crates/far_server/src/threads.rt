@@ -4,12 +4,12 @@ ghost use Rattle.std.specs.Io.KnownBytes.{IsAtEnd};
 
 use crate::clients::{Admission, Clients};
 use crate::ended::ClientEnd;
-use crate::journal::{Journal, Refusal};
+use crate::journal::{Refusal, ServerEvent};
 use crate::limits::Limits;
 use crossbeam_channel::{Receiver, Sender, bounded};
-use listener::{Bell, accept_or_rest};
+use listener::{Bell, Journal, Shortage, accept_or_rest};
 use std::alloc::{AllocError, Global};
-use std::io::{Error, Read};
+use std::io::Read;
 use std::net::{TcpListener, TcpStream};
 use std::sync::{Arc, Wait};
 use std::thread::{self, JoinHandle, Threads};
@@ -50,7 +50,7 @@ fn watch<R: Wait, I: Read + Drop>(rt: &R, clients: &Clients, input: I) -> Result
 
 /// What the threads of clients share.
 #[derive(Drop)]
-struct Tools<'a, R: Wait, J: Journal> {
+struct Tools<'a, R: Wait, J: Journal<ServerEvent>> {
     rt: &'a R,
     alloc: Global,
     clients: &'a Clients,
@@ -58,18 +58,25 @@ struct Tools<'a, R: Wait, J: Journal> {
     journal: &'a J,
 }
 
-impl<'a, R: Wait, J: Journal> listener::Journal for Tools<'a, R, J> {
-    fn short(&self, error: &Error) {
-        self.journal.short(error);
+impl<'a, R: Wait, J: Journal<ServerEvent>> Journal<Shortage> for Tools<'a, R, J> {
+    fn note(&self, shortage: Shortage) {
+        let Shortage(error) = shortage;
+        self.journal.note(ServerEvent::Short(error));
     }
 }
 
 /// Serves a client, and hands on how that ended, unless it was cut off by the end of the input.
-fn serve_client<R: Wait, J: Journal>(tools: &Tools<R, J>, client: u64, stream: TcpStream) {
+fn serve_client<R: Wait, J: Journal<ServerEvent>>(
+    tools: &Tools<R, J>,
+    client: u64,
+    stream: TcpStream,
+) {
     let mut stream = stream;
     tools.clients.bound(&stream);
     let ended = ClientEnd::of_client(tools.alloc, client, &mut stream, tools.clients.budget());
-    tools.journal.went(client, ended.outcome());
+    tools
+        .journal
+        .note(ServerEvent::Went(client, ended.outcome()));
     if tools.clients.is_open(tools.rt) {
         let _ = tools.ends.send(tools.rt, ended);
     }
@@ -78,7 +85,7 @@ fn serve_client<R: Wait, J: Journal>(tools: &Tools<R, J>, client: u64, stream: T
 
 /// The next client that is let in, and its number; none where the input has ended. One for which there is no room finds its
 /// socket closed.
-fn next_client<R: Wait, J: Journal>(
+fn next_client<R: Wait, J: Journal<ServerEvent>>(
     tools: &Tools<R, J>,
     listener: &TcpListener,
 ) -> Result<Option<(u64, TcpStream)>, NetFault> {
@@ -91,10 +98,10 @@ fn next_client<R: Wait, J: Journal>(
         };
         match tools.clients.admit(tools.rt, shown) {
             Admission::Admitted(client) => {
-                tools.journal.came(client);
+                tools.journal.note(ServerEvent::Came(client));
                 return Ok(Some((client, stream)));
             }
-            Admission::Full => tools.journal.refused(Refusal::TooMany),
+            Admission::Full => tools.journal.note(ServerEvent::Refused(Refusal::TooMany)),
             Admission::Closed => return Ok(None),
         }
     }
@@ -103,7 +110,7 @@ fn next_client<R: Wait, J: Journal>(
 
 /// Serves each client that comes on a thread of its own, until the input has ended and all have gone. One for which no thread
 /// can be made finds its socket closed. If the listener is broken, those that are there are cut off.
-fn serve_clients<R: Threads + Wait + Sync, J: Journal + Sync>(
+fn serve_clients<R: Threads + Wait + Sync, J: Journal<ServerEvent> + Sync>(
     tools: &Tools<R, J>,
     listener: &TcpListener,
 ) -> Result<(), NetFault> {
@@ -124,7 +131,7 @@ fn serve_clients<R: Threads + Wait + Sync, J: Journal + Sync>(
                     .is_err()
                 {
                     tools.clients.dismiss(tools.rt, client);
-                    tools.journal.refused(Refusal::NoThread);
+                    tools.journal.note(ServerEvent::Refused(Refusal::NoThread));
                 }
             }
             Err(NetFault)
@@ -133,7 +140,7 @@ fn serve_clients<R: Threads + Wait + Sync, J: Journal + Sync>(
 }
 
 /// Serves all clients. What it was given is dropped when the last has gone.
-fn host<R: Threads + Wait + Sync + Copy, J: Journal + Sync + Copy>(
+fn host<R: Threads + Wait + Sync + Copy, J: Journal<ServerEvent> + Sync + Copy>(
     rt: R,
     alloc: Global,
     clients: Arc<Clients>,
@@ -172,7 +179,7 @@ impl Server {
     ) -> Result<Server, AllocError>
     where
         R: Threads + Wait + Sync + Copy + Send + 'static,
-        J: Journal + Copy + Sync + Send + 'static,
+        J: Journal<ServerEvent> + Copy + Sync + Send + 'static,
     {
         let clients = Arc::new(alloc, Clients::new(alloc, bell, limits)?)?;
         let theirs = Arc::try_clone(&clients)?;

@@ -5,7 +5,7 @@ ghost use Rattle.listener.specs.Accepting.{GivesUp, IsBroken, Passes};
 
 use crate::bell::Bell;
 use crate::door::Accepts;
-use crate::journal::Journal;
+use crate::journal::{Journal, Shortage};
 use crate::patience::Patience;
 use std::io::{self, Error, ErrorKind};
 use std::net::{TcpListener, TcpStream};
@@ -66,7 +66,7 @@ fn is_broken(error: &Error) -> bool
 
 /// The next client's stream; none if the bell has rung. After an error that neither passes at once nor means that the listener is
 /// broken, this thread rests and tries again.
-fn next_stream_or_rest<R: Wait, J: Journal>(
+fn next_stream_or_rest<R: Wait, J: Journal<Shortage>>(
     rt: &R,
     listener: &TcpListener,
     bell: &Bell,
@@ -86,7 +86,7 @@ fn next_stream_or_rest<R: Wait, J: Journal>(
                 };
             }
             Err(error) => {
-                if !patience.rest(rt, bell, journal, &error) {
+                if !patience.rest(rt, bell, journal, error) {
                     return Ok(None);
                 }
             }
@@ -96,7 +96,7 @@ fn next_stream_or_rest<R: Wait, J: Journal>(
 }
 
 /// A second handle of a client's stream; none if the bell has rung. This thread rests and tries again until it has one.
-fn second_or_rest<R: Wait, J: Journal>(
+fn second_or_rest<R: Wait, J: Journal<Shortage>>(
     rt: &R,
     stream: &TcpStream,
     bell: &Bell,
@@ -107,7 +107,7 @@ fn second_or_rest<R: Wait, J: Journal>(
         match stream.try_clone() {
             Ok(shown) => return Some(shown),
             Err(error) => {
-                if !patience.rest(rt, bell, journal, &error) {
+                if !patience.rest(rt, bell, journal, error) {
                     return None;
                 }
             }
@@ -121,7 +121,7 @@ fn second_or_rest<R: Wait, J: Journal>(
 /// If a client can't be accepted for want of descriptors or of memory, or for any other reason that isn't the listener's own, this
 /// thread tells the journal and rests: for 10 ms, doubled for each try that fails up to a second. Meanwhile clients wait in the
 /// system's queue. It tries until one is accepted or the bell rings. An error means that the listener is broken.
-pub fn accept_or_rest<R: Wait, J: Journal>(
+pub fn accept_or_rest<R: Wait, J: Journal<Shortage>>(
     rt: &R,
     listener: &TcpListener,
     bell: &Bell,

@@ -1,9 +1,20 @@
-//! What whoever runs a server may want to know of its listener.
+//! What whoever runs a server may want to know.
 
 use std::io::Error;
 
-/// Told of what happens where clients are accepted. What it leaves out is passed over.
-pub trait Journal {
-    /// No client can be accepted for now, for this reason. Told once until one is accepted.
-    fn short(&self, _error: &Error) {}
+/// Told of each event of a server, by each of its threads.
+pub trait Journal<E> {
+    fn note(&self, event: E);
 }
+
+/// No journal: nothing is written down.
+#[derive(Clone, Copy, Drop, Debug, PartialEq, Eq)]
+pub struct Unwritten;
+
+impl<E: Drop> Journal<E> for Unwritten {
+    fn note(&self, _event: E) {}
+}
+
+/// No client can be accepted for now, for this reason. Noted once until one is accepted.
+#[derive(Drop, Debug)]
+pub struct Shortage(pub Error);

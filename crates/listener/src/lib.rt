@@ -17,7 +17,7 @@ pub use bell::Bell;
 pub use binding::bind;
 pub use door::{Accepts, Door};
 pub use filing::{SocketFile, bind_file};
-pub use journal::Journal;
+pub use journal::{Journal, Shortage, Unwritten};
 
 /// What is said of a network that failed.
 pub const NET_FAULT: &str = "net fault";

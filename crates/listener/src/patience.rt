@@ -3,7 +3,7 @@ ghost use Rattle.std.specs.Prelude.{◌≡◌};
 ghost use Rattle.listener.specs.Accepting.{first_rest, next_rest};
 
 use crate::bell::Bell;
-use crate::journal::Journal;
+use crate::journal::{Journal, Shortage};
 use std::io::Error;
 use std::sync::Wait;
 
@@ -31,17 +31,17 @@ impl Patience {
     }
 
     /// Rests after this error, of which the journal is told if it is the first. Says whether to try again: the bell hasn't rung.
-    pub fn rest<R: Wait, J: Journal>(
+    pub fn rest<R: Wait, J: Journal<Shortage>>(
         &mut self,
         rt: &R,
         bell: &Bell,
         journal: &J,
-        error: &Error,
+        error: Error,
     ) -> bool
         ensures { self.new.next ≡ next_rest self.old.next }
     {
         if !self.is_told {
-            journal.short(error);
+            journal.note(Shortage(error));
             self.is_told = true;
         }
         bell.rest(rt, self.next);

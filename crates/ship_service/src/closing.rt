@@ -8,9 +8,10 @@ ghost use Rattle.workers.specs.Cells.{IsSeatOf};
 ghost use Rattle.ship_service.specs.Closing.{AreLengths, Settles, live_object, GivesParcel};
 
 use crate::connection::Connection;
-use crate::journal::{Journal, Tally};
+use crate::journal::{ServiceEvent, Tally};
 use crate::shared_agent::Agent;
 use far_store::{FarStore, StoreFault};
+use listener::Journal;
 use shared_objects::{ActorSeat, ObjectEnd, SharedTable};
 use std::alloc::{AllocError, Global};
 use std::marker::Model;
@@ -77,7 +78,7 @@ impl<F: FarStore> Closed<F> {
     }
 
     /// Tells a journal how many objects are here, and how many are far.
-    pub(crate) fn tell<J: Journal>(&self, journal: &J) {
+    pub(crate) fn tell<J: Journal<ServiceEvent>>(&self, journal: &J) {
         let mut here = Tally::none();
         let mut far = Tally::none();
         for number in 0..self.lengths.len() {
@@ -88,7 +89,7 @@ impl<F: FarStore> Closed<F> {
                 None => {}
             }
         }
-        journal.closed(here, far);
+        journal.note(ServiceEvent::Closed { here, far });
     }
 
     /// Number and machine of each cell.

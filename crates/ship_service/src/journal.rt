@@ -28,26 +28,17 @@ impl Tally {
     }
 }
 
-/// Told of what happens to a service, by each of its threads. What it leaves out is passed over.
-pub trait Journal {
-    /// The client of this number came.
-    fn came(&self, _client: u64) {}
-
-    /// It went, or was given up.
-    fn went(&self, _client: u64, _outcome: Result<(), DriveFault>) {}
-
-    /// This became of an object that was asked to move.
-    fn moved(&self, _request: Request, _moved: Moved) {}
-
-    /// The mover tells of its work.
-    fn event(&self, _event: MoverEvent) {}
-
-    /// All clients have ended: so many objects are here, and so many are far.
-    fn closed(&self, _here: Tally, _far: Tally) {}
-}
-
-/// No journal: nothing is written down.
+/// What happens to a service.
 #[derive(Clone, Copy, Drop, Debug, PartialEq, Eq)]
-pub struct Unwritten;
-
-impl Journal for Unwritten {}
+pub enum ServiceEvent {
+    /// The client of this number came.
+    Came(u64),
+    /// It went, or was given up.
+    Went(u64, Result<(), DriveFault>),
+    /// This became of an object that was asked to move.
+    Moved(Request, Moved),
+    /// The mover tells of its work.
+    Mover(MoverEvent),
+    /// All clients have ended: so many objects are here, and so many are far.
+    Closed { here: Tally, far: Tally },
+}

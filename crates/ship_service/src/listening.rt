@@ -7,13 +7,13 @@ ghost use Rattle.ship_service.specs.Listening.{FindsHere, OpensAll, SaysAs, Says
 ghost use Rattle.ship_service.specs.Opening.{IsNamed};
 
 use crate::closing_lines::write_closing_lines;
-use crate::journal::{Journal, Unwritten};
+use crate::journal::ServiceEvent;
 use crate::opened::{OpenAgent, Opened};
 use crate::shared_agent::Agent;
 use crate::texts::closed_line;
 use crate::threads::{Ended, Plan, ThreadFault, serve_all};
 use far_store::FarStore;
-use listener::{Door, NET_FAULT, Name, announce_at, port_name};
+use listener::{Door, Journal, NET_FAULT, Name, Unwritten, announce_at, port_name};
 use std::alloc::{AllocError, Global};
 use std::io::Write;
 use std::marker::Brand;
@@ -81,7 +81,7 @@ impl From<WriteFault> for ListenFault {
 }
 
 /// Closes with all its connections, and says what is left.
-fn close<F: FarStore + Drop, K: TableName, W: Write, J: Journal>(
+fn close<F: FarStore + Drop, K: TableName, W: Write, J: Journal<ServiceEvent>>(
     alloc: Global,
     journal: &J,
     writer: &mut W,
@@ -104,7 +104,7 @@ fn listen_opened<
     K: TableName + Send + Sync,
     W: Write,
     R: Threads + Wait + Sync,
-    J: Journal + Sync,
+    J: Journal<ServiceEvent> + Sync,
 >(
     rt: &R,
     alloc: Global,
@@ -184,7 +184,7 @@ pub fn listen_over<
     S: FarStore + Drop + Send + Sync,
     W: Write,
     R: Threads + Wait + Sync,
-    J: Journal + Sync,
+    J: Journal<ServiceEvent> + Sync,
 >(
     rt: &R,
     alloc: Global,

@@ -10,11 +10,11 @@ ghost use denote.Param.Send.{IsSend, IsSync};
 
 use crate::closing::Closed;
 use crate::connection::Connection;
-use crate::journal::Journal;
+use crate::journal::ServiceEvent;
 use crate::serving::serve;
 use crate::shared_agent::Agent;
 use far_store::FarStore;
-use listener::{Door, accept};
+use listener::{Door, Journal, accept};
 use std::alloc::{AllocError, Global};
 use std::marker::PhantomData;
 use std::net::{Shutdown, TcpStream};
@@ -117,12 +117,12 @@ type Conversation<F, K> = PromisedHandle<Connection<K>, ServedOne<F, K>>;
 
 /// Lets workers and mover go on until it is told that the service ends. It passes moves on to a journal.
 #[derive(Drop)]
-struct UntilEnd<'a, J: Journal> {
+struct UntilEnd<'a, J: Journal<ServiceEvent>> {
     ended: AtomicBool,
     journal: &'a J,
 }
 
-impl<'a, J: Journal> UntilEnd<'a, J> {
+impl<'a, J: Journal<ServiceEvent>> UntilEnd<'a, J> {
     fn new(journal: &'a J) -> Self {
         UntilEnd {
             ended: AtomicBool::new(false),
@@ -131,7 +131,7 @@ impl<'a, J: Journal> UntilEnd<'a, J> {
     }
 }
 
-impl<'a, J: Journal> Gate for UntilEnd<'a, J> {
+impl<'a, J: Journal<ServiceEvent>> Gate for UntilEnd<'a, J> {
     const IS_TOLD: bool = false;
 
     fn before(&self, _worker: usize, _machine: usize) {}
@@ -139,11 +139,11 @@ impl<'a, J: Journal> Gate for UntilEnd<'a, J> {
     fn after(&self, _worker: usize, _machine: usize) {}
 
     fn moved(&self, request: Request, moved: Moved) {
-        self.journal.moved(request, moved);
+        self.journal.note(ServiceEvent::Moved(request, moved));
     }
 
     fn event(&self, event: MoverEvent) {
-        self.journal.event(event);
+        self.journal.note(ServiceEvent::Mover(event));
     }
 
     fn go_on(&self) -> bool {
@@ -153,14 +153,14 @@ impl<'a, J: Journal> Gate for UntilEnd<'a, J> {
 
 /// What all threads of a service share.
 #[derive(Drop)]
-struct Tools<'a, R: Wait, F: FarStore, K: TableName, J: Journal> {
+struct Tools<'a, R: Wait, F: FarStore, K: TableName, J: Journal<ServiceEvent>> {
     rt: &'a R,
     gate: &'a UntilEnd<'a, J>,
     agent: &'a Agent<F, K>,
     upkeep: Upkeep,
 }
 
-impl<'a, R: Wait, F: FarStore, K: TableName, J: Journal> Tools<'a, R, F, K, J> {
+impl<'a, R: Wait, F: FarStore, K: TableName, J: Journal<ServiceEvent>> Tools<'a, R, F, K, J> {
     /// From now on workers and mover end, also those that sleep, and a move that waits for the far store of this stream is cut off.
     fn end(&self, far: &Option<TcpStream>) {
         self.gate.ended.store(true, Ordering::SeqCst);
@@ -182,7 +182,7 @@ struct Front<K: TableName> {
 }
 
 /// Answers all that the client of a number says. What goes wrong on its stream ends its connection alone.
-fn serve_client<R: Wait, F: FarStore, K: TableName, J: Journal>(
+fn serve_client<R: Wait, F: FarStore, K: TableName, J: Journal<ServiceEvent>>(
     tools: &Tools<R, F, K, J>,
     client: u64,
     unused: Connection<K>,
@@ -191,7 +191,7 @@ fn serve_client<R: Wait, F: FarStore, K: TableName, J: Journal>(
     requires { IsUnused K.table F.RETURNS K.opening unused.session.seat }
     ensures { HadOneClient K.table F.RETURNS K.opening K.passed result.session.seat }
 {
-    tools.gate.journal.came(client);
+    tools.gate.journal.note(ServiceEvent::Came(client));
     let mut connection = unused;
     let mut reader = &stream;
     let mut writer = &stream;
@@ -203,7 +203,7 @@ fn serve_client<R: Wait, F: FarStore, K: TableName, J: Journal>(
         &mut connection,
     );
     let _ = stream.shutdown(Shutdown::Both);
-    tools.gate.journal.went(client, outcome);
+    tools.gate.journal.note(ServiceEvent::Went(client, outcome));
     connection
 }
 
@@ -282,7 +282,7 @@ fn serve_clients<
     F: FarStore + Send + Sync,
     K: TableName + Send + Sync,
     R: Threads + Wait + Sync,
-    J: Journal + Sync,
+    J: Journal<ServiceEvent> + Sync,
 >(
     tools: &Tools<R, F, K, J>,
     alloc: Global,
@@ -336,14 +336,14 @@ where
     )
 }
 
-fn step_machines<R: Wait, F: FarStore, K: TableName, J: Journal>(
+fn step_machines<R: Wait, F: FarStore, K: TableName, J: Journal<ServiceEvent>>(
     tools: &Tools<R, F, K, J>,
     worker: usize,
 ) {
     work(tools.rt, tools.gate, tools.agent.pool(), worker);
 }
 
-fn move_objects<R: Wait, F: FarStore, K: TableName, J: Journal>(
+fn move_objects<R: Wait, F: FarStore, K: TableName, J: Journal<ServiceEvent>>(
     tools: &Tools<R, F, K, J>,
     first: Mover<F, K>,
 ) -> Mover<F, K>
@@ -366,7 +366,7 @@ fn serve_beside_workers<
     F: FarStore + Send + Sync,
     K: TableName + Send + Sync,
     R: Threads + Wait + Sync,
-    J: Journal + Sync,
+    J: Journal<ServiceEvent> + Sync,
 >(
     tools: &Tools<R, F, K, J>,
     front: Front<K>,
@@ -411,7 +411,7 @@ fn serve_beside_mover<
     F: FarStore + Drop + Send + Sync,
     K: TableName + Send + Sync,
     R: Threads + Wait + Sync,
-    J: Journal + Sync,
+    J: Journal<ServiceEvent> + Sync,
 >(
     tools: &Tools<R, F, K, J>,
     front: Front<K>,
@@ -472,7 +472,7 @@ pub fn serve_all<
     F: FarStore + Drop + Send + Sync,
     K: TableName + Send + Sync,
     R: Threads + Wait + Sync,
-    J: Journal + Sync,
+    J: Journal<ServiceEvent> + Sync,
 >(
     rt: &R,
     alloc: Global,

@@ -1,8 +1,7 @@
 //! What a service has moved, counted for its last line.
 
 use crate::servers::notes::{Note, Notes, ending_of};
-use console::DriveFault;
-use ship_service::{Journal, Tally};
+use ship_service::{Journal, ServiceEvent, Tally};
 use std::fmt::{self, Display, Formatter};
 use std::io::Eprint;
 use std::sync::atomic::{AtomicBool, AtomicU64, Ordering};
@@ -173,21 +172,9 @@ impl<'a, R: Clock + Eprint> Ledger<'a, R> {
             passes: self.passes.load(Ordering::SeqCst),
         }
     }
-}
 
-impl<'a, R: Clock + Eprint> Journal for Ledger<'a, R> {
-    fn came(&self, client: u64) {
-        self.notes.write(Note::Came(client));
-    }
-
-    fn went(&self, client: u64, outcome: Result<(), DriveFault>) {
-        self.notes.write(match outcome {
-            Ok(()) => Note::Went(client),
-            Err(fault) => Note::Unheard(client, fault),
-        });
-    }
-
-    fn moved(&self, request: Request, moved: Moved) {
+    /// This became of an object that was asked to move.
+    fn note_move(&self, request: Request, moved: Moved) {
         if let Moved::Fault(_) = moved {
             add(&self.failures, 1);
         }
@@ -205,7 +192,8 @@ impl<'a, R: Clock + Eprint> Journal for Ledger<'a, R> {
         });
     }
 
-    fn event(&self, event: MoverEvent) {
+    /// Counts what the mover tells of its work.
+    fn count(&self, event: MoverEvent) {
         match event {
             MoverEvent::Begins(_) => self.began.store(self.now(), Ordering::SeqCst),
             MoverEvent::Carried(Direction::Leave, bytes) => add(&self.left, bytes as u64),
@@ -215,9 +203,25 @@ impl<'a, R: Clock + Eprint> Journal for Ledger<'a, R> {
         }
     }
 
-    fn closed(&self, here: Tally, far: Tally) {
+    /// All clients have ended: so many objects are here, and so many are far.
+    fn close(&self, here: Tally, far: Tally) {
         keep(&self.here, here);
         keep(&self.far, far);
         self.is_closed.store(true, Ordering::SeqCst);
+    }
+}
+
+impl<'a, R: Clock + Eprint> Journal<ServiceEvent> for Ledger<'a, R> {
+    fn note(&self, event: ServiceEvent) {
+        match event {
+            ServiceEvent::Came(client) => self.notes.write(Note::Came(client)),
+            ServiceEvent::Went(client, Ok(())) => self.notes.write(Note::Went(client)),
+            ServiceEvent::Went(client, Err(fault)) => {
+                self.notes.write(Note::Unheard(client, fault));
+            }
+            ServiceEvent::Moved(request, moved) => self.note_move(request, moved),
+            ServiceEvent::Mover(event) => self.count(event),
+            ServiceEvent::Closed { here, far } => self.close(here, far),
+        }
     }
 }

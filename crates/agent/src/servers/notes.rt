@@ -3,7 +3,7 @@
 use crate::servers::ledger::Moves;
 use crate::servers::moment::Moment;
 use console::DriveFault;
-use far_server::{CLIENT_LIMIT, Journal, Refusal};
+use far_server::{CLIENT_LIMIT, Journal, Refusal, ServerEvent};
 use far_store::StoreFault;
 use far_stream::StreamFault;
 use ship_service::Tally;
@@ -11,6 +11,15 @@ use std::fmt::{self, Display, Formatter};
 use std::io::{Eprint, Error, ErrorKind};
 use std::net::SocketAddr;
 use std::time::Clock;
+
+/// Linux' numbers of the errors for want of memory and of descriptors.
+const ENOMEM: i32 = 12;
+
+const ENFILE: i32 = 23;
+
+const EMFILE: i32 = 24;
+
+const ENOBUFS: i32 = 105;
 
 /// Something that whoever runs a server has to know.
 #[derive(Clone, Copy, Drop, Debug, PartialEq, Eq)]
@@ -24,6 +33,7 @@ pub(crate) enum Note {
     Unheard(u64, DriveFault),
     TooMany,
     NoThread,
+    Short(Option<i32>),
     Connected(SocketAddr),
     Unanswered(SocketAddr),
     Unreached(SocketAddr),
@@ -46,6 +56,15 @@ fn reason_of(kind: ErrorKind) -> &'static str {
         ErrorKind::ConnectionAborted => "connection aborted",
         ErrorKind::BrokenPipe | ErrorKind::NotConnected => "broken pipe",
         ErrorKind::UnexpectedEof => "connection closed",
+        _ => "device error",
+    }
+}
+
+/// Why no client can be accepted, by Linux' number of the error.
+fn shortage_of(code: Option<i32>) -> &'static str {
+    match code {
+        Some(ENFILE | EMFILE) => "no descriptor is left",
+        Some(ENOMEM | ENOBUFS) => "no memory",
         _ => "device error",
     }
 }
@@ -79,6 +98,10 @@ impl Display for Note {
             Note::Unheard(client, fault) => write!(f, "client {client} is given up: {fault}"),
             Note::TooMany => write!(f, "a client is refused: {CLIENT_LIMIT} are served"),
             Note::NoThread => write!(f, "a client is refused: no thread can be made"),
+            Note::Short(code) => {
+                let reason = shortage_of(*code);
+                write!(f, "clients wait to be accepted: {reason}")
+            }
             Note::Connected(far) => write!(f, "connected to the far server {far}"),
             Note::Unanswered(far) => write!(f, "the far server {far} doesn't answer in time"),
             Note::Unreached(far) => write!(f, "the far server {far} can't be reached"),
@@ -160,6 +183,14 @@ impl<R: Clock + Eprint> Notes<R> {
         }
     }
 
+    /// This port can't be listened on.
+    pub fn refused_port(&self, port: u16, error: &Error) {
+        self.write(match error.kind() {
+            ErrorKind::AddrInUse => Note::PortTaken(port),
+            _ => Note::PortRefused(port),
+        });
+    }
+
     /// The socket file of this path is listened at.
     pub fn listening_at(&self, path: &str) {
         self.write_path("listening at", path);
@@ -185,33 +216,17 @@ impl<R: Clock + Eprint> Notes<R> {
     }
 }
 
-impl<R: Clock + Eprint> Journal for Notes<R> {
-    fn refused_port(&self, port: u16, error: &Error) {
-        self.write(match error.kind() {
-            ErrorKind::AddrInUse => Note::PortTaken(port),
-            _ => Note::PortRefused(port),
-        });
-    }
-
-    fn listening(&self, port: u16) {
-        self.write(Note::Listening(port));
-    }
-
-    fn came(&self, client: u64) {
-        self.write(Note::Came(client));
-    }
-
-    fn went(&self, client: u64, outcome: Result<(), StreamFault>) {
-        self.write(match outcome {
-            Ok(()) => Note::Went(client),
-            Err(fault) => Note::GivenUp(client, fault),
-        });
-    }
-
-    fn refused(&self, why: Refusal) {
-        self.write(match why {
-            Refusal::TooMany => Note::TooMany,
-            Refusal::NoThread => Note::NoThread,
-        });
+impl<R: Clock + Eprint> Journal<ServerEvent> for Notes<R> {
+    fn note(&self, event: ServerEvent) {
+        match event {
+            ServerEvent::PortRefused(port, error) => self.refused_port(port, &error),
+            ServerEvent::Listening(port) => self.write(Note::Listening(port)),
+            ServerEvent::Came(client) => self.write(Note::Came(client)),
+            ServerEvent::Went(client, Ok(())) => self.write(Note::Went(client)),
+            ServerEvent::Went(client, Err(fault)) => self.write(Note::GivenUp(client, fault)),
+            ServerEvent::Refused(Refusal::TooMany) => self.write(Note::TooMany),
+            ServerEvent::Refused(Refusal::NoThread) => self.write(Note::NoThread),
+            ServerEvent::Short(error) => self.write(Note::Short(error.raw_os_error())),
+        }
     }
 }

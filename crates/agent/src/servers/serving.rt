@@ -14,7 +14,6 @@ use crate::running::do_commands;
 use crate::servers::ledger::Ledger;
 use crate::servers::noted_stream::NotedStream;
 use crate::servers::notes::{Note, Notes};
-use far_server::Journal;
 use far_store::{FarStore, OwnStore, StoreFault};
 use far_stream::{Buffered, DeferringStore};
 use listener::{Door, NET_FAULT, Name, SocketFile, bind, bind_file, file_name, port_name};
@@ -174,7 +173,7 @@ where
 {
     match bind(rt, port) {
         Ok((listener, address)) => {
-            notes.listening(address.port());
+            notes.write(Note::Listening(address.port()));
             Ok(Entrance {
                 door: Door::Port(listener),
                 name: port_name(address.port()),
