@@ -28,7 +28,7 @@ operands_send : IsSend Operands.the_row
 operands_send = search (sendable, crosses) depth 60 fits 20000
 
 entry_send : IsSend CodeEntry.the_row
-entry_send = search (declared_send Inside.the_type (row_send, (row_send, (search sendable, (search sendable, (operands_send, tt))))), view_send)
+entry_send = search (declared_send Inside.the_type (search sendable, (search sendable, (row_send, (row_send, (search sendable, (search sendable, (operands_send, tt))))))), view_send)
 
 pub program_send : IsSend Program.the_row
 program_send = search (sendable, crosses, entry_send) depth 60 fits 20000

@@ -1,5 +1,6 @@
 pub mod Positions
 pub mod Encoded
+pub mod Numbered
 pub mod KeptEntries
 pub mod OneReason
 pub mod ReadEntries

@@ -1,31 +1,17 @@
 //! What is asked of decoded code.
-ghost use Rattle.std.specs.Prelude.{◌≡◌, ◌<◌, ◌≤◌, ◌+◌, ◌*◌, ◌↔◌, ℕ, pos, List, [], length, MatchOption, IfSome, IfNone};
+ghost use Rattle.std.specs.Prelude.{◌≡◌, ◌<◌, ◌≤◌, ◌+◌, ◌*◌, ◌↔◌, List, [], length, MatchOption};
 ghost use Rattle.isa_table.specs.declared.instr.Instr.{Instr};
 ghost use Rattle.isa_table.specs.Slots.{slots};
-ghost use Rattle.loader.specs.Instructions.{target, writes_r10, calls_unknown_helper, ends_code};
+ghost use Rattle.loader.specs.Instructions.{writes_r10, calls_unknown_helper, ends_code};
 ghost use Rattle.loader.specs.ValidCode.{code_limit, LeadsInside, IsSound, AllSound};
-ghost use Rattle.loader.specs.Entries.{all_entries};
+ghost use Rattle.loader.specs.Entries.{all_entries, instrs};
 ghost use Rattle.loader.specs.Refusals.{IsLeastComplaint, IsFirstWrong};
 
+use crate::leading::{slot_of, target_of};
 use crate::loading::{LoadError, Why};
 use crate::program::{CodeEntry, entry_at, plain_at};
 use helpers::Helper;
 use isa_table::{Instr, Reg, slots_of};
-
-/// The slot to which the instruction at the slot jumps or calls.
-fn target_of(slot: usize, instr: Instr) -> Option<i64>
-    requires { 8 * slot < code_limit }
-    ensures { result ≡ target slot instr }
-{
-    let next = slot as i64 + 1;
-    match instr {
-        Instr::Jump { offset, .. } => Some(next + i64::from(offset)),
-        Instr::Ja { offset } => Some(next + i64::from(offset)),
-        Instr::JaLong { offset } => Some(next + i64::from(offset)),
-        Instr::CallLocal { offset } => Some(next + i64::from(offset)),
-        _ => None,
-    }
-}
 
 /// Whether R10 is written, which holds the frame pointer by the convention of the BPF ABI.
 fn writes_frame_pointer(instr: Instr) -> bool
@@ -50,24 +36,11 @@ fn never_goes_on(instr: Instr) -> bool
     matches!(instr, Instr::Exit | Instr::Ja { .. } | Instr::JaLong { .. })
 }
 
-/// The slot of this number, where there are so many.
-fn slot_of(number: i64, count: usize) -> Option<usize>
-    requires { 8 * count ≤ code_limit }
-    ensures some { IfSome result (λ m. (number ≡ pos m) × (m < count)) }
-    ensures none { IfNone result ((m : ℕ) → number ≡ pos m → m < count → ⊥) }
-{
-    if 0 <= number && number < count as i64 {
-        Some(number as usize)
-    } else {
-        None
-    }
-}
-
 /// What is wrong with where the instruction leads.
 fn jump_complaint(entries: &[CodeEntry], slot: usize, instr: Instr) -> Option<Why>
     requires short { 8 * length entries.now ≤ code_limit }
     requires room { 8 * slot < code_limit }
-    ensures { (code after : List Instr) → entries.now ≡ all_entries code
+    ensures { (code after : List Instr) → instrs entries.now ≡ all_entries code
         → MatchOption result (LeadsInside code slot instr) (λ why. IsLeastComplaint code slot instr after why) }
 {
     let to = target_of(slot, instr)?;
@@ -84,7 +57,7 @@ fn jump_complaint(entries: &[CodeEntry], slot: usize, instr: Instr) -> Option<Wh
 fn complaint(entries: &[CodeEntry], slot: usize, instr: Instr) -> Option<Why>
     requires short { 8 * length entries.now ≤ code_limit }
     requires room { 8 * slot < code_limit }
-    ensures { (code after : List Instr) → entries.now ≡ all_entries code → (after ≡ []) ↔ (slot + slots instr ≡ length entries.now)
+    ensures { (code after : List Instr) → instrs entries.now ≡ all_entries code → (after ≡ []) ↔ (slot + slots instr ≡ length entries.now)
         → MatchOption result (IsSound code slot instr after) (λ why. IsLeastComplaint code slot instr after why) }
 {
     if let Some(why) = jump_complaint(entries, slot, instr) {
@@ -105,7 +78,7 @@ fn complaint(entries: &[CodeEntry], slot: usize, instr: Instr) -> Option<Why>
 /// The first instruction with which something is wrong, and the least that is wrong with it.
 pub(crate) fn first_complaint(entries: &[CodeEntry]) -> Option<LoadError>
     requires { 8 * length entries.now ≤ code_limit }
-    ensures { (code : List Instr) → entries.now ≡ all_entries code → MatchOption result (AllSound code code 0) (λ e. IsFirstWrong code code 0 e.slot e.why) }
+    ensures { (code : List Instr) → instrs entries.now ≡ all_entries code → MatchOption result (AllSound code code 0) (λ e. IsFirstWrong code code 0 e.slot e.why) }
 {
     let mut slot = 0;
     'instrs: loop {

@@ -3,6 +3,7 @@
 
 mod checks;
 mod laws;
+mod leading;
 mod loading;
 mod meaning;
 mod pairs;

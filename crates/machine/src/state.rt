@@ -6,6 +6,7 @@ ghost use Rattle.machine.specs.declared.state.Stop.{Stop};
 ghost use Rattle.machine.specs.declared.state.Stop.TheVariants as stop;
 
 use isa_table::Size;
+use loader::CodeEntry;
 use memory::Op;
 
 /// How many calls may be open at a time: this project's choice.
@@ -144,6 +145,20 @@ pub struct Point {
     pub slot: usize,
     /// How many instructions may still be done.
     pub fuel: u64,
+}
+
+impl Point {
+    /// The same point, with its slot read from the entry: a run doesn't count slots.
+    #[inline(always)]
+    pub(crate) fn at(self, entry: &CodeEntry) -> Point
+        requires { entry.now.slot ≡ self.slot }
+        ensures { result ≡ self }
+    {
+        Point {
+            slot: entry.slot(),
+            ..self
+        }
+    }
 }
 
 /// What a step did, the slot where the machine is then, and whether all its scopes close. What fuel it took, the answer tells.
