@@ -17,7 +17,7 @@ use Rattle.agent.specs.Reports.{Reports, ReportsOutcome}
 use Rattle.agent.specs.RunLeaves.{RunLeaves}
 use Rattle.agent.specs.TaskLeaves.{LeavesUndone, StreamStates, TaskLeaves}
 use Rattle.agent.specs.declared.arguments.Task.{Task}
-use Rattle.agent.specs.declared.arguments.Task.TheVariants.{Run, Check, Assemble, Disassemble, Store, Serve, Commands}
+use Rattle.agent.specs.declared.arguments.Task.TheVariants.{Run, Check, Assemble, Disassemble, Commands}
 use Rattle.agent.specs.declared.failure.Failure.{Failure}
 use Rattle.agent.specs.declared.failure.Failure.TheVariants.{NoMemory}
 use Rattle.agent.specs.declared.failure.ExitStatus.{ExitStatus}
@@ -77,9 +77,8 @@ left_by (Disassemble showing) given out_before out_after before after status num
   told_over before after status number says is given (λ input. DisLeaves showing input out_before out_after) (λ input unread. (tt, kept)),
   reads_nothing check_limit given,
 )
-left_by (Store storing) given out_before out_after before after status number kept says is = (Keeps-refl given, kept, (Err NoMemory, status, tt, says, is))
-left_by (Serve serving) given out_before out_after before after status number kept says is = (Keeps-refl given, kept, (Err NoMemory, status, tt, says, is))
 left_by Commands given out_before out_after before after status number kept says is = ((Err NoMemory, status, kept, says, is), Keeps-refl given)
+left_by task given out_before out_after before after status number kept says is = (Keeps-refl given, kept, (Err NoMemory, status, tt, says, is))
 
 -- whatever the task is, nothing of it was done
 pub memory_leaves : (task : Task) (given out_before out_after before after : Option (List ℕ)) (kinds : Kinds) (error : Error)

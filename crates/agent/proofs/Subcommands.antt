@@ -14,7 +14,7 @@ use Rattle.clap.specs.Walk.{Held, Row, Rule, Text, answers_to, finished, nothing
 use Rattle.clap.proofs.OnLiterals.{clap_on_literals}
 use Rattle.agent.specs.CommandLine.{HasServing, HasStoring, asm_shape, budget_option, check_shape, command_line, commands_shape, connections_option, dis_shape}
 use Rattle.agent.specs.CommandLine.{far_rule, far_timeout_option, faults_of, flag_rule, idle_option, keep_option, memory_option, port_option, run_shape}
-use Rattle.agent.specs.CommandLine.{serve_shape, store_shape, task_named, task_of, unix_rule, verbose_rule, workers_option}
+use Rattle.agent.specs.CommandLine.{serve_shape, store_shape, subcommands, Subcommand, task_named, task_of, unix_rule, verbose_rule, workers_option}
 use Rattle.agent.specs.OptionNumbers.{HasNumber, NumberOption, number_rule}
 use Rattle.agent.proofs.Numbers.{ArePlain, IsPlain, first_empty, rest_empty, help, options_built, number_at}
 
@@ -91,21 +91,26 @@ serve_plain = (
   ),
 )
 
+-- P holds of each subcommand
+abbrev Each : (Subcommand → Type 0) → List Subcommand → Type 0
+Each P [] = Unit {0}
+Each P (s ∷ more) = P s × Each P more
+
+-- the one that this word names, if it names one
+abbrev chosen : List Subcommand → Text → Option Shape
+chosen [] word = None
+chosen (s ∷ more) word = cond (answers_to word (s.shape.name, [])) (Some (with_help s.shape)) (chosen more word)
+
 module _ (P : Option Shape → Type 0) where
-  among_at : (x y z w v u t : Bool) → P None → P (Some (with_help run_shape)) → P (Some (with_help check_shape)) → P (Some (with_help asm_shape))
-      → P (Some (with_help dis_shape)) → P (Some (with_help store_shape)) → P (Some (with_help serve_shape))
-      → P (Some (with_help commands_shape))
-      → P (cond x (Some (with_help run_shape))
-      (cond y (Some (with_help check_shape)) (cond z (Some (with_help asm_shape))
-      (cond w (Some (with_help dis_shape)) (cond v (Some (with_help store_shape)) (cond u (Some (with_help serve_shape)) (cond t (Some (with_help commands_shape)) None)))))))
-  among_at true y z w v u t none run check asm dis store serve commands = run
-  among_at false true z w v u t none run check asm dis store serve commands = check
-  among_at false false true w v u t none run check asm dis store serve commands = asm
-  among_at false false false true v u t none run check asm dis store serve commands = dis
-  among_at false false false false true u t none run check asm dis store serve commands = store
-  among_at false false false false false true t none run check asm dis store serve commands = serve
-  among_at false false false false false false true none run check asm dis store serve commands = commands
-  among_at false false false false false false false none run check asm dis store serve commands = none
+  either_shape : (is : Bool) (s : Shape) (other : Option Shape) → P (Some s) → P other → P (cond is (Some s) other)
+  either_shape true s other this that = this
+  either_shape false s other this that = that
+
+  -- what holds of none and of each holds of the one that is named
+  chosen_has : (subs : List Subcommand) (word : Text) → P None → Each (λ s. P (Some (with_help s.shape))) subs → P (chosen subs word)
+  chosen_has [] word none each = none
+  chosen_has (s ∷ more) word none each =
+      either_shape (answers_to word (s.shape.name, [])) (with_help s.shape) (chosen more word) each.0 (chosen_has more word none each.1)
 
 -- ---- what is entered has a task, and its numbers
 
@@ -168,12 +173,9 @@ entered_good : (stop : Option (Text × List Text)) → entered_fault (built comm
 unfolding clap_on_literals
 entered_good None f = tt
 entered_good (Some p) f =
-    among_at (λ o. option_map_or (λ s. level_fault s [] nothing_held p.1 false []) o [] ≡ [] → IsEntered (option_map (λ s. rows_at s p.1) o))
-    (answers_to p.0 (codes "run", [])) (answers_to p.0 (codes "check", [])) (answers_to p.0 (codes "asm", [])) (answers_to p.0 (
-      codes "dis",
-      [],
-    )) (answers_to p.0 (codes "store", [])) (answers_to p.0 (codes "serve", [])) (answers_to p.0 (codes "commands", []))
-    (λ _. tt) (run_entered p.1) (λ _. (refl, tt)) (λ _. (refl, tt)) (λ _. (refl, tt)) (store_entered p.1) (serve_entered p.1) (λ _. (refl, tt)) f
+    chosen_has (λ o. option_map_or (λ s. level_fault s [] nothing_held p.1 false []) o [] ≡ [] → IsEntered (option_map (λ s. rows_at s p.1) o))
+    subcommands p.0 (λ _. tt)
+    (run_entered p.1, (λ _. (refl, tt), (λ _. (refl, tt), (λ _. (refl, tt), (store_entered p.1, (serve_entered p.1, (λ _. (refl, tt), tt))))))) f
 
 -- right arguments enter a subcommand
 pub right_enters : (arguments : List Text) → faults_of arguments ≡ []

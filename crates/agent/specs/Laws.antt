@@ -1,7 +1,7 @@
 -- Laws of the command line.
 use Rattle.std.specs.Prelude.{◌≡◌, ℕ, Bool, [], ◌∷◌, List, IsSome, codes, false}
 use Rattle.clap.specs.Words.{Text}
-use Rattle.agent.specs.CommandLine.{budget_limit, faults_of, task_of}
+use Rattle.agent.specs.CommandLine.{budget_limit, faults_of, task_of, Subcommand}
 use Rattle.agent.specs.declared.arguments.Serving.{Serving}
 use Rattle.agent.specs.declared.arguments.Showing.{Showing}
 use Rattle.agent.specs.declared.arguments.Storing.{Storing}
@@ -9,6 +9,10 @@ use Rattle.agent.specs.declared.arguments.Storing.{Storing}
 -- right arguments name a task
 abbrev pub RightArgumentsNameATask : Type 0
 RightArgumentsNameATask = (arguments : List Text) → faults_of arguments ≡ [] → IsSome (task_of arguments)
+
+-- a subcommand alone is right arguments, and names a task
+abbrev pub IsRightAlone : Subcommand → Type 0
+IsRightAlone s = (faults_of (s.shape.name ∷ []) ≡ []) × IsSome (task_of (s.shape.name ∷ []))
 
 -- what `dis` asks for with `--slots` or without, and with `--llvm` or without
 abbrev pub showing_as : Bool → Bool → Showing

@@ -1,15 +1,15 @@
 //! What the command line takes, apart from any call.
 #![tactic(auto, unfolding(clap::proofs::OnLiterals::clap_on_literals))]
 
-ghost use Rattle.std.specs.Prelude.{◌≡◌, ◌≢◌, [], ◌∷◌, None, Some, codes, true, false};
-ghost use Rattle.agent.specs.CommandLine.{budget_limit, budget_limit_text, far_of, faults_of, port_limit, task_of, unix_of};
-ghost use Rattle.agent.specs.Laws.{RightArgumentsNameATask, all_of_serve, far_serving, plain_serving, showing_as, storing_at, unix_serving};
+ghost use Rattle.std.specs.Prelude.{◌≡◌, ◌≢◌, All, [], ◌∷◌, None, Some, codes, true, false};
+ghost use Rattle.agent.specs.CommandLine.{budget_limit, budget_limit_text, far_of, faults_of, port_limit, subcommands, task_of, unix_of};
+ghost use Rattle.agent.specs.Laws.{IsRightAlone, RightArgumentsNameATask, all_of_serve, far_serving, plain_serving, showing_as, storing_at, unix_serving};
 
 use crate::arguments::Task;
 use clap::error::ErrorKind;
 
-/// `run`, `check`, `asm`, `dis`, `store`, `serve` and `commands` alone are right arguments, and ask for what they are called; `--help` asks for
-/// help, `--version` for the version.
+/// Each subcommand alone is right arguments; `run`, `check`, `asm`, `dis`, `store`, `serve` and `commands` ask for what they are called, `--help`
+/// asks for help, `--version` for the version.
 pub fn right_arguments()
     ensures run { (faults_of (codes "run" ∷ []) ≡ []) × (task_of (codes "run" ∷ []) ≡ Some (Task.Run budget_limit)) }
     ensures check { (faults_of (codes "check" ∷ []) ≡ []) × (task_of (codes "check" ∷ []) ≡ Some (Task.Check false)) }
@@ -18,6 +18,7 @@ pub fn right_arguments()
     ensures store { (faults_of (codes "store" ∷ []) ≡ []) × (task_of (codes "store" ∷ []) ≡ Some (Task.Store (storing_at 0 false))) }
     ensures serve { (faults_of (codes "serve" ∷ []) ≡ []) × (task_of (codes "serve" ∷ []) ≡ Some (Task.Serve plain_serving)) }
     ensures commands { (faults_of (codes "commands" ∷ []) ≡ []) × (task_of (codes "commands" ∷ []) ≡ Some Task.Commands) }
+    ensures each { All IsRightAlone subcommands }
     ensures help { faults_of (codes "--help" ∷ []) ≡ ErrorKind.DisplayHelp ∷ [] }
     ensures version { faults_of (codes "--version" ∷ []) ≡ ErrorKind.DisplayVersion ∷ [] }
     ensures short_version { faults_of (codes "-V" ∷ []) ≡ ErrorKind.DisplayVersion ∷ [] }
