@@ -12,7 +12,7 @@ use Rattle.clap.specs.Simple.{App, Shape, built, entered, filled, names_of, rows
 use Rattle.clap.specs.Takes.{is_given}
 use Rattle.clap.specs.Walk.{Held, Row, Rule, Text, answers_to, finished, nothing_held, settled, walk, walk_from}
 use Rattle.clap.proofs.OnLiterals.{clap_on_literals}
-use Rattle.agent.specs.CommandLine.{HasServing, HasStoring, asm_shape, budget_option, check_shape, command_line, commands_shape, connections_option, dis_shape}
+use Rattle.agent.specs.CommandLine.{HasServing, HasStoring, budget_option, command_line, connections_option}
 use Rattle.agent.specs.CommandLine.{far_rule, far_timeout_option, faults_of, flag_rule, idle_option, keep_option, memory_option, port_option, run_shape}
 use Rattle.agent.specs.CommandLine.{serve_shape, store_shape, subcommands, Subcommand, task_named, task_of, unix_rule, verbose_rule, workers_option}
 use Rattle.agent.specs.OptionNumbers.{HasNumber, NumberOption, number_rule}
