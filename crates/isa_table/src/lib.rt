@@ -1,13 +1,12 @@
 //! The instruction table of RFC 9669: which instructions there are, and what each operation computes.
 #![tactic(auto)]
 
-mod bits32;
-mod bits64;
+mod bits;
 mod instr;
 mod operations;
 mod row_list;
 
-pub use bits64::alu64;
+pub use bits::alu64;
 pub use instr::{
     AluOp, AtomicOp, Binary, Cond, Instr, Operand, Order, Reg, SignedSize, Size, SwapWidth, Width,
     registers, slots_of,

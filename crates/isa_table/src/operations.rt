@@ -10,8 +10,7 @@ ghost use Rattle.isa_table.specs.Table.{
   width_bits,
 };
 
-use crate::bits32::{alu_of_32, atomic_of_32, holds32};
-use crate::bits64::{atomic_of_64, holds64};
+use crate::bits::{alu_of_32, atomic_of_32, atomic_of_64, holds32, holds64};
 use crate::instr::{AluOp, AtomicOp, Cond, Order, SwapWidth, Width};
 
 /// The operation on the low 32 bits (RFC 9669, section 4.1, class ALU); the upper half of the answer is zero.
