@@ -186,7 +186,7 @@ pub enum Dispatched {
 
 impl Dispatched {
     ghost use Rattle.std.specs.Prelude.{ℕ, ◌+◌, Some};
-    ghost use Rattle.machine.specs.Dispatches.{IsOf, goes_to, past_if_ran, two_go_to};
+    ghost use Rattle.machine.specs.Dispatches.{GoesPast, IsOf, goes_to, two_go_to};
 
     /// What is kept of an instruction that was done: mostly it ran and closes no scope, and then its slot tells all.
     #[inline(always)]
@@ -215,12 +215,11 @@ impl Dispatched {
     #[inline(always)]
     pub(crate) fn past(done: Done, point: Point, entry: &CodeEntry) -> Dispatched
         requires slot { entry.now.slot ≡ point.slot }
-        requires past { done.slot ≡ past_if_ran point.slot done.answer }
+        requires past { GoesPast point.slot done }
         ensures { IsOf point.slot result done }
     {
         match done.answer {
-            Stepped::Ran(_) if !done.closes => Dispatched::Past,
-            Stepped::Ran(_) => Dispatched::Other(done),
+            Stepped::Ran(_) => Dispatched::Past,
             Stepped::Waiting(_) | Stepped::Stopped(_) => Dispatched::Other(Done {
                 slot: entry.slot(),
                 ..done
