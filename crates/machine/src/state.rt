@@ -220,10 +220,10 @@ impl Dispatched {
     {
         match done.answer {
             Stepped::Ran(_) => Dispatched::Past,
-            Stepped::Waiting(_) | Stepped::Stopped(_) => Dispatched::Other(Done {
-                slot: entry.slot(),
-                ..done
-            }),
+            Stepped::Waiting(_) | Stepped::Stopped(_) => {
+                let slot = entry.slot();
+                Dispatched::Other(Done { slot, ..done })
+            }
         }
     }
 }
