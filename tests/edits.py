@@ -40,6 +40,9 @@ WRONG = re.compile(r"^(?:\./)?((?:proofs|specs)/\S+?):\d+:\d+: error: (?:`([^`]*
 INVARIANTS = "Invariants.antt"
 MISSING = re.compile(r"has no field|has no `|is not in scope|was not admitted")
 REACHED = re.compile(r"^(?:logic=not-proved|only=\d+ proved=\d+)", re.MULTILINE)
+# What it says where a name is that of several functions.
+SEVERAL = re.compile(r"several functions are named `([^`]*)`: help: write one of (.*)")
+QUOTED = re.compile(r"`([^`]*)`")
 UNCOMPILED = re.compile(r"^\S+:\d+:\d+: error.*$", re.MULTILINE)
 
 
@@ -135,12 +138,11 @@ def copy_crate(crate: str, to: pathlib.Path) -> pathlib.Path:
     return to / "crates" / crate
 
 
-def checked(rt: str, copied: pathlib.Path, modules: Iterable[str] = ()) -> tuple[int, str]:
-    """How a check of the copy ends, or of these modules of it alone, and what it says."""
-    words = [rt, "check", *(word for module in sorted(modules) for word in ("--only", module))]
+def checked(rt: str, copied: pathlib.Path, *words: str) -> tuple[int, str]:
+    """How a check of the copy with these options ends, and what it says."""
     how: dict[str, Any] = {"stdin": subprocess.DEVNULL, "stdout": subprocess.PIPE, "stderr": subprocess.STDOUT, "text": True, "errors": "replace"}
     try:
-        done = subprocess.run(words, cwd=copied, timeout=SECONDS, **how)
+        done = subprocess.run([rt, "check", *words], cwd=copied, timeout=SECONDS, **how)
     except subprocess.TimeoutExpired:
         return 1, f"its check hadn't ended after {SECONDS} seconds"
     return done.returncode, done.stdout
@@ -153,8 +155,20 @@ class Place(NamedTuple):
     function: str
 
 
+def checked_alone(rt: str, copied: pathlib.Path, places: Iterable[Place]) -> tuple[int, str]:
+    """The same of a check of these functions alone. A name that several functions have stands for those of the place's module."""
+    names = {place.function: {place.function} for place in places}
+    while True:
+        status, said = checked(rt, copied, *(word for name in sorted(set().union(*names.values())) for word in ("--only", name)))
+        found = SEVERAL.search(said)
+        if not found or names.get(found[1]) != {found[1]}:
+            return status, said
+        modules = {place.module for place in places if place.function == found[1]}
+        names[found[1]] = {name for name in QUOTED.findall(found[2]) if any(name.startswith(f"{module}::") for module in modules)}
+
+
 def place_of(copied: pathlib.Path, edit: pathlib.Path) -> Place | None:
-    """The function in whose body all changes of an edit lie. None if they lie elsewhere, or in the crate's root, of which no module is checked alone."""
+    """The function in whose body all changes of an edit lie. None if they lie elsewhere, or in the crate's root."""
     found: set[Place] = set()
     for file, old, _ in changes_of(edit):
         parts = pathlib.PurePath(file).with_suffix("").parts
@@ -211,7 +225,7 @@ def groups_of(places: Mapping[pathlib.Path, Place]) -> list[dict[pathlib.Path, P
 def tried_together(rt: str, copied: pathlib.Path, group: Mapping[pathlib.Path, Place]) -> Iterator[tuple[pathlib.Path, Verdict]]:
     """Those edits of a group that are refused, each by a goal of its own function: its body is all that an edit changes, and no other function sees it."""
     with made(copied, group):
-        status, said = checked(rt, copied, {place.module for place in group.values()})
+        status, said = checked_alone(rt, copied, group.values())
     if status == 1 and REACHED.search(said):
         verdicts = {edit: judged(1, about(place, said)) for edit, place in group.items()}
         yield from ((edit, verdict) for edit, verdict in verdicts.items() if verdict.came == "refused")
