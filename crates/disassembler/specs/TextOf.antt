@@ -1,4 +1,4 @@
--- The text of valid code.
+-- The text of valid code, and its lines in any spelling.
 use Rattle.std.specs.Prelude.{◌≡◌, ℕ, ◌+◌, Bool, true, false, List, [], ◌∷◌, ◌++◌, codes, decimal}
 use Rattle.isa_table.specs.declared.instr.Instr.{Instr}
 use Rattle.isa_table.specs.Slots.{slots}
@@ -14,20 +14,20 @@ abbrev pub slot_mark : Bool → ℕ → List ℕ
 slot_mark false slot = []
 slot_mark true slot = decimal slot ++ codes ": "
 
--- the line of the instruction at this slot, with its line end
-abbrev pub shown_line : Bool → ℕ → Instr → List ℕ
-shown_line has_slots slot i = slot_mark has_slots slot ++ line_text i ++ 10 ∷ []
+-- the line of the instruction at this slot in this spelling, with its line end
+abbrev pub shown_line : (Instr → List ℕ) → Bool → ℕ → Instr → List ℕ
+shown_line spelled has_slots slot i = slot_mark has_slots slot ++ spelled i ++ 10 ∷ []
 
--- the lines of instructions, the first of which is at this slot
-abbrev pub lines_from : Bool → ℕ → List Instr → List ℕ
-lines_from has_slots slot [] = []
-lines_from has_slots slot (i ∷ is) = shown_line has_slots slot i ++ lines_from has_slots (slot + slots i) is
+-- the lines of instructions in this spelling, the first of which is at this slot
+abbrev pub lines_from : (Instr → List ℕ) → Bool → ℕ → List Instr → List ℕ
+lines_from spelled has_slots slot [] = []
+lines_from spelled has_slots slot (i ∷ is) = shown_line spelled has_slots slot i ++ lines_from spelled has_slots (slot + slots i) is
 
--- the text has a line for each of the instructions that these bytes of valid code are, each after the number of its first slot where slots are asked for
-abbrev pub HasLines : Bool → List ℕ → List ℕ → Type 0
-HasLines has_slots bytes text = (code : List Instr) × IsCode bytes code × (text ≡ lines_from has_slots 0 code)
+-- the text has a line in this spelling for each of the instructions that these bytes of valid code are, each after the number of its first slot where slots are asked for
+abbrev pub HasLines : (Instr → List ℕ) → Bool → List ℕ → List ℕ → Type 0
+HasLines spelled has_slots bytes text = (code : List Instr) × IsCode bytes code × (text ≡ lines_from spelled has_slots 0 code)
 
 -- the code is shown by this text: the canonical one, or with slots
 abbrev pub IsShownAs : Bool → List ℕ → List ℕ → Type 0
 IsShownAs false bytes text = IsTextOf bytes text
-IsShownAs true bytes text = HasLines true bytes text
+IsShownAs true bytes text = HasLines line_text true bytes text

@@ -1,50 +1,31 @@
 //! The text of a program.
-ghost use Rattle.std.specs.Prelude.{◌≡◌, ◌++◌, codes, decimal, IfOk, OnOk};
+ghost use Rattle.std.specs.Prelude.{IfOk};
 ghost use Rattle.std.specs.String.{string_bytes};
-ghost use Rattle.disassembler.specs.TextOf.{HasLines, IsShownAs, IsTextOf, shown_line};
+ghost use Rattle.asm_table.specs.Canonical.{line_text};
+ghost use Rattle.disassembler.specs.TextOf.{IsShownAs, IsTextOf};
 
 use crate::lines::line;
-use isa_table::{Instr, slots_of};
+use crate::spelling::{Spelling, spelled_lines};
+use isa_table::Instr;
 use loader::Program;
 use std::alloc::{AllocError, Global};
 
-/// Adds the number of a slot, as it stands before a line.
-fn put_slot(slot: usize, out: &mut Vec<u8>) -> Result<(), AllocError>
-    ensures { OnOk result (out.new.items ≡ (out.old.items ++ decimal slot) ++ codes ": ") }
-{
-    out.extend_from_slice(itoa::Buffer::new().format(slot).as_bytes())?;
-    out.extend_from_slice(b": ")
-}
+/// The canonical spelling.
+struct Canonical;
 
-/// Adds the line of the instruction at a slot, after the slot's number where it is asked for.
-fn put_line(has_slots: bool, slot: usize, i: &Instr, out: &mut Vec<u8>) -> Result<(), AllocError>
-    ensures { OnOk result (out.new.items ≡ out.old.items ++ shown_line has_slots slot i.now) }
-{
-    if has_slots {
-        put_slot(slot, out)?;
-    }
-    line(i, out)?;
-    out.extend_from_slice(b"\n")
-}
+impl Spelling for Canonical {
+    ghost spelled = { line_text };
 
-fn bytes_of(alloc: Global, has_slots: bool, program: &Program) -> Result<Vec<u8>, AllocError>
-    ensures { IfOk result (λ t. HasLines has_slots program.now t.items) }
-{
-    let mut out = Vec::new(alloc);
-    let mut slot = 0;
-    prove!(program.slots() > 0);
-    while let Some(i) = program.at(slot) {
-        put_line(has_slots, slot, &i, &mut out)?;
-        slot += slots_of(&i);
+    fn put(i: &Instr, out: &mut Vec<u8>) -> Result<(), AllocError> {
+        line(i, out)
     }
-    Ok(out)
 }
 
 /// The lines without slots, which are the canonical spelling.
 fn plain_bytes(alloc: Global, program: &Program) -> Result<Vec<u8>, AllocError>
     ensures { IfOk result (λ t. IsTextOf program.now t.items) }
 {
-    bytes_of(alloc, false, program)
+    spelled_lines::<Canonical>(alloc, false, program)
 }
 
 /// The canonical spelling of the program, each line with a line end.
@@ -66,5 +47,5 @@ pub fn text(alloc: Global, program: &Program) -> Result<String, AllocError>
 pub fn listing(alloc: Global, has_slots: bool, program: &Program) -> Result<Vec<u8>, AllocError>
     ensures { IfOk result (λ t. IsShownAs has_slots program.now t.items) }
 {
-    bytes_of(alloc, has_slots, program)
+    spelled_lines::<Canonical>(alloc, has_slots, program)
 }

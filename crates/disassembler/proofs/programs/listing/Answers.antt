@@ -3,4 +3,4 @@ use Rattle.disassembler.proofs.Walked.{shown}
 use Rattle.disassembler.proofs.programs.listing.Goals as goal
 
 pub returns : goal.returns
-returns c = IfOk-weaker c.bytes_of.result _ _ (λ t s. shown c.args.has_slots c.args.program.now t.items s) c.bytes_of.ensures
+returns c = IfOk-weaker c.spelled_lines.result _ _ (λ t s. shown c.args.has_slots c.args.program.now t.items s) c.spelled_lines.ensures

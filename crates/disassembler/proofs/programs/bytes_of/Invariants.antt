@@ -1,9 +1,0 @@
-use Rattle.std.proofs.Common.{◌-◌, ◌≤◌}
-use Rattle.disassembler.proofs.Walked.{Walked}
-use Rattle.disassembler.proofs.programs.bytes_of.Given as goal
-
-abbrev pub invariant-loop-i : goal.invariant-loop-i
-invariant-loop-i l = Walked l.has_slots l.program l.slot l.out.items × (l.slot ≤ 4096)
-
-abbrev pub decreases-loop-i : goal.decreases-loop-i
-decreases-loop-i l = 4096 - l.slot
