@@ -239,13 +239,17 @@ def try_edits(rt: str, copied: pathlib.Path) -> Iterator[tuple[pathlib.Path, Ver
             left.append(edit)
         else:
             yield edit, Verdict("NOT TRIED", "a text that it changes isn't in its file")
-    for group in groups_of({edit: place for edit in left if (place := place_of(copied, edit))}):
+    places = {edit: place for edit in left if (place := place_of(copied, edit))}
+    for group in groups_of(places):
         for edit, verdict in tried_together(rt, copied, group):
             left.remove(edit)
             yield edit, verdict
     for edit in left:
         with made(copied, [edit]):
-            yield edit, judged(*checked(rt, copied))
+            verdict = judged(*checked_alone(rt, copied, [places[edit]])) if edit in places else None
+            if verdict is None or verdict.came != "refused":
+                verdict = judged(*checked(rt, copied))
+            yield edit, verdict
 
 
 def try_crate(rt: str, crate: str) -> tuple[int, int]:
