@@ -20,7 +20,7 @@ import tempfile
 from typing import Any, Iterable, Iterator, Mapping, NamedTuple
 
 from lib.calls import need_toolchain
-from lib.sources import ROOT, blanked, changes_of, crates, crates_below, function_places
+from lib.sources import ROOT, blanked, block, changes_of, crates, crates_below, function_places
 
 TRIED = "TRIED"
 # A line of TRIED on an edit: its name and the goal that refused it.
@@ -40,9 +40,9 @@ WRONG = re.compile(r"^(?:\./)?((?:proofs|specs)/\S+?):\d+:\d+: error: (?:`([^`]*
 INVARIANTS = "Invariants.antt"
 MISSING = re.compile(r"has no field|has no `|is not in scope|was not admitted")
 REACHED = re.compile(r"^(?:logic=not-proved|only=\d+ proved=\d+)", re.MULTILINE)
-# What it says where a name is that of several functions.
-SEVERAL = re.compile(r"several functions are named `([^`]*)`: help: write one of (.*)")
-QUOTED = re.compile(r"`([^`]*)`")
+# The head of an impl: its trait if it has one, with its first argument, and its type.
+IMPL = re.compile(r"^impl(?:<[^{]*?>)? (?:(?:\w+::)*(\w+)(?:<(\(\)|\w*)[^{]*?)? for )?(?:\w+::)*(\w+)", re.MULTILINE)
+UNKNOWN = re.compile(r"has no function `([^`]*)`")
 UNCOMPILED = re.compile(r"^\S+:\d+:\d+: error.*$", re.MULTILINE)
 
 
@@ -149,38 +149,63 @@ def checked(rt: str, copied: pathlib.Path, *words: str) -> tuple[int, str]:
 
 
 class Place(NamedTuple):
-    """The function that an edit changes, in its module."""
+    """The function that an edit changes: its module or that of its type, its impl, or an empty text, and its name."""
 
     module: str
+    impl: str
     function: str
 
+    def path(self) -> str:
+        return "::".join(part for part in self if part)
 
-def checked_alone(rt: str, copied: pathlib.Path, places: Iterable[Place]) -> tuple[int, str]:
-    """The same of a check of these functions alone. A name that several functions have stands for those of the place's module."""
-    names = {place.function: {place.function} for place in places}
-    while True:
-        status, said = checked(rt, copied, *(word for name in sorted(set().union(*names.values())) for word in ("--only", name)))
-        found = SEVERAL.search(said)
-        if not found or names.get(found[1]) != {found[1]}:
-            return status, said
-        modules = {place.module for place in places if place.function == found[1]}
-        names[found[1]] = {name for name in QUOTED.findall(found[2]) if any(name.startswith(f"{module}::") for module in modules)}
+
+def module_of(copied: pathlib.Path, file: pathlib.Path) -> str:
+    return "::".join((copied.name, *file.relative_to(copied / "src").with_suffix("").parts))
+
+
+def impl_around(code: str, at: int) -> tuple[str, str]:
+    """The type of the impl around a place of a blanked text, and its trait with an argument; empty texts if there is none."""
+    for found in IMPL.finditer(code, 0, at):
+        if at < block(code, code.index("{", found.end())):
+            trait, argument, kind = found.groups("")
+            return kind, trait + argument.replace("()", "Unit")
+    return "", ""
+
+
+def function_around(copied: pathlib.Path, file: pathlib.Path, old: str) -> Place | None:
+    """The function in whose body a text of a file stands, by the name that `rt check` has for it: its type's module counts, and not its own."""
+    code, at = blanked(file.read_text()), file.read_text().find(old)
+    inside = [name for name, _, begin, end in function_places(code) if begin <= at and at + len(old) <= end]
+    if not inside:
+        return None
+    kind, trait = impl_around(code, at)
+    declared = re.compile(rf"\b(?:struct|enum) {kind}\b")
+    homes = [home for home in (file, *sorted((copied / "src").rglob("*.rt"))) if kind and declared.search(blanked(home.read_text()))]
+    return Place(module_of(copied, homes[0] if homes else file), kind + trait, inside[-1])
 
 
 def place_of(copied: pathlib.Path, edit: pathlib.Path) -> Place | None:
     """The function in whose body all changes of an edit lie. None if they lie elsewhere, or in the crate's root."""
     found: set[Place] = set()
-    for file, old, _ in changes_of(edit):
-        parts = pathlib.PurePath(file).with_suffix("").parts
-        if parts[0] != "src" or parts[1:] in (("lib",), ("main",)):
+    for name, old, _ in changes_of(edit):
+        if pathlib.PurePath(name).parts[0] != "src" or name in ("src/lib.rt", "src/main.rt"):
             return None
-        text = (copied / file).read_text()
-        at = text.find(old)
-        inside = [name for name, _, begin, end in function_places(blanked(text)) if begin <= at and at + len(old) <= end]
-        if not inside:
+        place = function_around(copied, copied / name, old)
+        if place is None:
             return None
-        found.add(Place("::".join((copied.name, *parts[1:])), inside[-1]))
+        found.add(place)
     return found.pop() if len(found) == 1 else None
+
+
+def checked_alone(rt: str, copied: pathlib.Path, places: Iterable[Place]) -> tuple[int, str]:
+    """How a check of these functions alone ends, and what it says. Those that it doesn't know by that name are left out."""
+    paths = {place.path() for place in places}
+    while True:
+        status, said = checked(rt, copied, *(word for path in sorted(paths) for word in ("--only", path)))
+        unknown = UNKNOWN.search(said)
+        if not unknown or unknown[1] not in paths or len(paths) == 1:
+            return status, said
+        paths.remove(unknown[1])
 
 
 def about(place: Place, said: str) -> str:
@@ -246,10 +271,8 @@ def try_edits(rt: str, copied: pathlib.Path) -> Iterator[tuple[pathlib.Path, Ver
             yield edit, verdict
     for edit in left:
         with made(copied, [edit]):
-            verdict = judged(*checked_alone(rt, copied, [places[edit]])) if edit in places else None
-            if verdict is None or verdict.came != "refused":
-                verdict = judged(*checked(rt, copied))
-            yield edit, verdict
+            found = judged(*checked_alone(rt, copied, [places[edit]])) if edit in places else None
+            yield edit, found if found and found.came == "refused" else judged(*checked(rt, copied))
 
 
 def try_crate(rt: str, crate: str) -> tuple[int, int]:
