@@ -36,9 +36,8 @@ pub fn helped(slot: usize, closes: bool) -> Done
     }
 }
 
-/// The object of that number can't be reached now. Cold, since it seldom happens: the compiler then tests first whether an access was done.
-#[cold]
-#[inline(never)]
+/// The object of that number can't be reached now.
+#[inline(always)]
 pub fn wait(slot: usize, number: u32) -> Done
     ensures { result ≡ record { slot = slot; answer = Stepped.Waiting number; closes = false } }
 {

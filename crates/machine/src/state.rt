@@ -186,7 +186,7 @@ pub enum Dispatched {
 
 impl Dispatched {
     ghost use Rattle.std.specs.Prelude.{ℕ, ◌+◌, Some};
-    ghost use Rattle.machine.specs.Dispatches.{GoesPast, IsOf, goes_to, two_go_to};
+    ghost use Rattle.machine.specs.Dispatches.{IsOf, IsRan, goes_to, two_go_to};
 
     /// What is kept of an instruction that was done: mostly it ran and closes no scope, and then its slot tells all.
     #[inline(always)]
@@ -211,19 +211,14 @@ impl Dispatched {
         }
     }
 
-    /// The same of an instruction after which the machine goes on at the next slot. One that didn't run leaves it at the entry's.
+    /// The same of an instruction after which the machine goes on at the next slot.
     #[inline(always)]
-    pub(crate) fn past(done: Done, point: Point, entry: &CodeEntry) -> Dispatched
-        requires slot { entry.now.slot ≡ point.slot }
-        requires past { GoesPast point.slot done }
-        ensures { IsOf point.slot result done }
+    pub(crate) fn past(done: Done) -> Dispatched
+        ensures { (slot : ℕ) → (IsRan done.answer → done.slot ≡ slot + 1) → IsOf slot result done }
     {
         match done.answer {
-            Stepped::Ran(_) => Dispatched::Past,
-            Stepped::Waiting(_) | Stepped::Stopped(_) => {
-                let slot = entry.slot();
-                Dispatched::Other(Done { slot, ..done })
-            }
+            Stepped::Ran(_) if !done.closes => Dispatched::Past,
+            _ => Dispatched::Other(done),
         }
     }
 }
