@@ -2,6 +2,7 @@
 use Rattle.std.proofs.Common.{◌≡◌, Bool, true, false, not, ◌&&◌, List, [], ◌∷◌, ◌++◌, Option, None, Some, is_some, IsSome, map, refl, subst, option_map, cond}
 use Rattle.std.proofs.Common.{codes, arith}
 use Rattle.std.specs.Prelude.{option_and_then}
+use Rattle.core.specs.List.{AllByRecursion}
 use Rattle.std.specs.List.{list_any}
 use Rattle.std.specs.Option.{option_map_or}
 use Rattle.std.specs.Str.{bytes_eq}
@@ -91,11 +92,6 @@ serve_plain = (
   ),
 )
 
--- P holds of each subcommand
-abbrev Each : (Subcommand → Type 0) → List Subcommand → Type 0
-Each P [] = Unit {0}
-Each P (s ∷ more) = P s × Each P more
-
 -- the one that this word names, if it names one
 abbrev chosen : List Subcommand → Text → Option Shape
 chosen [] word = None
@@ -107,7 +103,7 @@ module _ (P : Option Shape → Type 0) where
   either_shape false s other this that = that
 
   -- what holds of none and of each holds of the one that is named
-  chosen_has : (subs : List Subcommand) (word : Text) → P None → Each (λ s. P (Some (with_help s.shape))) subs → P (chosen subs word)
+  chosen_has : (subs : List Subcommand) (word : Text) → P None → AllByRecursion (λ s. P (Some (with_help s.shape))) subs → P (chosen subs word)
   chosen_has [] word none each = none
   chosen_has (s ∷ more) word none each =
       either_shape (answers_to word (s.shape.name, [])) (with_help s.shape) (chosen more word) each.0 (chosen_has more word none each.1)

@@ -2,7 +2,7 @@
 ghost use Rattle.std.specs.Prelude.{◌≡◌, ◌≢◌, length, Option};
 ghost use Rattle.debugger.specs.declared.commands.DebugCommand.{DebugCommand};
 ghost use Rattle.debugger.specs.declared.commands.MachineCommand.{MachineCommand};
-ghost use Rattle.debugger.specs.declared.commands.ShowCommand.{ShowCommand};
+ghost use Rattle.debugger.specs.declared.show.ShowCommand.{ShowCommand};
 ghost use Rattle.world.specs.declared.events.Event.{Event};
 ghost use Rattle.world.specs.declared.replies.Reply.{Reply};
 ghost use Rattle.bpfagent_c.specs.Codes.{code_of};

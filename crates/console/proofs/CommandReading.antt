@@ -5,10 +5,10 @@ use Rattle.std.proofs.lemmas.List.{length-take}
 use Rattle.hex.specs.Hex.{decode_of}
 use Rattle.machine.specs.Grants.{GrantState}
 use Rattle.debugger.specs.declared.commands.MachineCommand.TheVariants.{Show}
-use Rattle.debugger.specs.declared.commands.ShowCommand.{ShowCommand}
-use Rattle.debugger.specs.declared.commands.ShowCommand.TheVariants.{Stack}
-use Rattle.debugger.specs.declared.replies.ShowReply.{ShowReply}
-use Rattle.debugger.specs.declared.replies.ShowReply.TheVariants as show_reply
+use Rattle.debugger.specs.declared.show.ShowCommand.{ShowCommand}
+use Rattle.debugger.specs.declared.show.ShowCommand.TheVariants.{Stack, Line}
+use Rattle.debugger.specs.declared.show.ShowReply.{ShowReply}
+use Rattle.debugger.specs.declared.show.ShowReply.TheVariants as show_reply
 use Rattle.debugger.specs.declared.debuggee.Debuggee.{Debuggee}
 use Rattle.debugger.specs.Showing.{Shows}
 use Rattle.world.specs.declared.events.Event.{Event}
@@ -153,5 +153,6 @@ pub show_short : (m : ℕ) (command : ShowCommand) (d : Debuggee) (replied : Sho
     → IsShort (Shown m replied)
 show_short m (Stack offset size) d (show_reply.Bytes shown) s short = let e = ap length s.1 in
     let l = length-take size (drop offset d.machine.stack) in omega (arith, e, l, short)
-show_short m _ d (show_reply.Bytes shown) s short = absurd s
+show_short m (Line slot) d (show_reply.Bytes shown) s short = absurd s
+show_short m _ d (show_reply.Bytes shown) s short = absurd (cc)
 show_short m command d _ s short = tt

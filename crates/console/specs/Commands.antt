@@ -9,7 +9,7 @@ use Rattle.machine.specs.MachineState.{stack_size}
 use Rattle.machine.specs.Grants.{GrantState}
 use Rattle.debugger.specs.declared.commands.MachineCommand.TheVariants.{Step, Show, Debug}
 use Rattle.debugger.specs.declared.commands.Way.TheVariants as way
-use Rattle.debugger.specs.declared.commands.ShowCommand.TheVariants.{Regs, Out, Stack, Line}
+use Rattle.debugger.specs.declared.show.ShowCommand.TheVariants.{Regs, Out, Stack, Line}
 use Rattle.debugger.specs.declared.commands.DebugCommand.TheVariants.{Break, Unbreak, Watch, Unwatch, Resume}
 use Rattle.world.specs.declared.events.Event.{Event}
 use Rattle.world.specs.declared.events.Event.TheVariants.{Make, Ship, Object, Machine}

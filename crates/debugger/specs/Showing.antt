@@ -8,10 +8,10 @@ use Rattle.machine.specs.MachineState.{MachineState}
 use Rattle.debugger.specs.declared.shown.State.{State}
 use Rattle.debugger.specs.declared.shown.State.TheVariants as state
 use Rattle.debugger.specs.declared.shown.Shown.{Shown}
-use Rattle.debugger.specs.declared.commands.ShowCommand.{ShowCommand}
-use Rattle.debugger.specs.declared.commands.ShowCommand.TheVariants.{Regs, Out, Stack, Line}
-use Rattle.debugger.specs.declared.replies.ShowReply.{ShowReply}
-use Rattle.debugger.specs.declared.replies.ShowReply.TheVariants.{Registers, Emitted, Bytes, Disassembled, Outside, NoSlot, NoMemory}
+use Rattle.debugger.specs.declared.show.ShowCommand.{ShowCommand}
+use Rattle.debugger.specs.declared.show.ShowCommand.TheVariants.{Regs, Out, Stack, Line}
+use Rattle.debugger.specs.declared.show.ShowReply.{ShowReply}
+use Rattle.debugger.specs.declared.show.ShowReply.TheVariants.{Registers, Emitted, Bytes, Disassembled, Outside, NoSlot, NoMemory}
 use Rattle.debugger.specs.declared.debuggee.Debuggee.{Debuggee}
 use Rattle.debugger.specs.DebugState.{DebugState}
 
@@ -47,9 +47,8 @@ ShowsLine code slot _ = ⊥
 
 -- what a command shows of a machine
 abbrev pub Shows : ShowCommand → Debuggee → ShowReply → Type 0
-Shows Regs d (Registers shown) = shown ≡ shown_of d.machine d.debugger
+Shows Regs d reply = reply ≡ Registers (shown_of d.machine d.debugger)
 -- the values that the machine emitted, the oldest first
-Shows Out d (Emitted values) = values ≡ d.machine.emitted
+Shows Out d reply = reply ≡ Emitted d.machine.emitted
 Shows (Stack offset size) d reply = ShowsBytes d.machine.stack offset size reply
 Shows (Line slot) d reply = ShowsLine d.machine.code slot reply
-Shows _ d _ = ⊥

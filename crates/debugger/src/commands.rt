@@ -1,5 +1,7 @@
 //! What is asked of one machine.
 
+use crate::show::ShowCommand;
+
 /// A command on a machine.
 #[derive(Clone, Copy, Drop, Debug)]
 pub enum MachineCommand {
@@ -18,19 +20,6 @@ pub enum Way {
     Step,
     /// The step is made, paused or not, and the machine is paused after it.
     One,
-}
-
-/// What is to be shown of a machine.
-#[derive(Clone, Copy, Drop, Debug)]
-pub enum ShowCommand {
-    /// Its registers, with slot, fuel and state.
-    Regs,
-    /// The values that it has emitted.
-    Out,
-    /// So many bytes of its stack, from an offset on.
-    Stack { offset: u32, length: u32 },
-    /// The instruction that begins at a slot of its code.
-    Line { slot: u32 },
 }
 
 /// A command of the debugger.

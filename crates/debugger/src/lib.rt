@@ -12,7 +12,7 @@ mod shown;
 mod start;
 mod watch;
 
-pub use commands::{DebugCommand, MachineCommand, ShowCommand, Way};
+pub use commands::{DebugCommand, MachineCommand, Way};
 pub use debuggee::Debuggee;
 pub use debugger::{BREAK_LIMIT, Debugger, WATCH_LIMIT};
 pub use laws::{
@@ -21,8 +21,9 @@ pub use laws::{
     passing_ends, pausing_stays, reads_never_hit, resuming_goes_on, set_breaks_are_set,
     set_watches_are_set, stops_end_pauses, waiting_changes_nothing,
 };
-pub use replies::{Debugged, ShowReply, StepReply};
+pub use replies::{Debugged, StepReply};
 pub use running::MachineRun;
+pub use show::{ShowCommand, ShowReply};
 pub use shown::{LineText, Shown, State, Values};
 pub use start::Start;
 pub use watch::Watch;

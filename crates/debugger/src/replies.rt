@@ -1,8 +1,6 @@
 //! What a machine answers to its commands.
 
-use crate::shown::{LineText, Shown, Values};
 use machine::Stop;
-use memory::Bytes;
 
 /// What a step was answered. It is much smaller than what may be shown, and is moved faster.
 #[derive(Clone, Copy, Drop, Debug, PartialEq, Eq)]
@@ -17,25 +15,6 @@ pub enum StepReply {
     Paused(usize),
     /// The machine is stopped.
     Stopped(Stop),
-}
-
-/// What is shown of a machine, or why it isn't.
-#[derive(Drop, Debug, PartialEq, Eq)]
-pub enum ShowReply {
-    /// What the machine is.
-    Registers(Shown),
-    /// What it has emitted.
-    Emitted(Values),
-    /// The bytes that were asked for.
-    Bytes(Bytes),
-    /// The instruction at a slot, as assembly.
-    Disassembled { slot: u32, text: LineText },
-    /// The bytes are not all within the stack.
-    Outside,
-    /// No instruction begins at the slot.
-    NoSlot,
-    /// Out of memory.
-    NoMemory,
 }
 
 /// What a command of the debugger did. All but `Done` change nothing.

@@ -1,16 +1,46 @@
-//! What is shown of a machine: its state, as it is. Nothing changes.
+//! What is shown of a machine, as it is: what is asked, what is answered. Nothing changes.
 ghost use Rattle.std.specs.Prelude.{◌≡◌, ◌<◌, ◌^◌};
 ghost use Rattle.debugger.specs.Showing.{state_of, shown_of, Shows, ShowsBytes, ShowsLine};
 
-use crate::commands::ShowCommand;
 use crate::debuggee::Debuggee;
-use crate::replies::ShowReply;
 use crate::shown::{LineText, Shown, State, Values};
 use disassembler::line;
 use loader::Program;
 use machine::Stop;
 use memory::Bytes;
 use std::alloc::Global;
+
+/// What is to be shown of a machine.
+#[derive(Clone, Copy, Drop, Debug)]
+pub enum ShowCommand {
+    /// Its registers, with slot, fuel and state.
+    Regs,
+    /// The values that it has emitted.
+    Out,
+    /// So many bytes of its stack, from an offset on.
+    Stack { offset: u32, length: u32 },
+    /// The instruction that begins at a slot of its code.
+    Line { slot: u32 },
+}
+
+/// What is shown of a machine, or why it isn't.
+#[derive(Drop, Debug, PartialEq, Eq)]
+pub enum ShowReply {
+    /// What the machine is.
+    Registers(Shown),
+    /// What it has emitted.
+    Emitted(Values),
+    /// The bytes that were asked for.
+    Bytes(Bytes),
+    /// The instruction at a slot, as assembly.
+    Disassembled { slot: u32, text: LineText },
+    /// The bytes are not all within the stack.
+    Outside,
+    /// No instruction begins at the slot.
+    NoSlot,
+    /// Out of memory.
+    NoMemory,
+}
 
 /// Whether a machine goes on, is paused or is stopped.
 fn state_of(stop: Option<Stop>, paused: bool) -> State

@@ -70,3 +70,13 @@ pub enum PartsError {
     #[error("no memory")]
     Memory,
 }
+
+impl From<AllocError> for PartsError {
+    ghost use Rattle.object_store.specs.declared.errors.PartsError.TheVariants as parts_error;
+
+    ghost from_gives = { λ _ error. error ≡ parts_error.Memory };
+
+    fn from(_error: AllocError) -> PartsError {
+        PartsError::Memory
+    }
+}

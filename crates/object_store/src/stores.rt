@@ -99,13 +99,11 @@ impl<F: FarStore + Drop> ObjectStore<F> {
         if let Some(number) = first_away(bodies.as_slice()) {
             return Err(PartsError::NotHere(number as u32));
         }
-        match take_all(alloc, bodies, &mut store) {
-            Ok(taken) => Ok(Parts {
-                bodies: from_one(taken),
-                store,
-            }),
-            Err(_) => Err(PartsError::Memory),
-        }
+        let taken = take_all(alloc, bodies, &mut store)?;
+        Ok(Parts {
+            bodies: from_one(taken),
+            store,
+        })
     }
 }
 

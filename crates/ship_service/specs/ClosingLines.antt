@@ -7,7 +7,7 @@ use Rattle.shared_objects.specs.declared.closing.ObjectEnd.TheVariants.{Here, Ou
 use Rattle.debugger.specs.Showing.{shown_of}
 use Rattle.workers.specs.Cells.{RunningState}
 use Rattle.workers.specs.declared.closing.ClosedCell.{ClosedCell}
-use Rattle.debugger.specs.declared.replies.ShowReply.TheVariants.{Registers}
+use Rattle.debugger.specs.declared.show.ShowReply.TheVariants.{Registers}
 use Rattle.world.specs.declared.replies.Reply.TheVariants.{Shown}
 use Rattle.console.specs.Lines.{ended}
 use Rattle.console.specs.Replies.{reply_text, number_text}

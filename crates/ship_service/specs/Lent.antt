@@ -9,7 +9,7 @@ use Rattle.debugger.specs.declared.commands.MachineCommand.{MachineCommand}
 use Rattle.debugger.specs.declared.commands.MachineCommand.TheVariants.{Step, Show, Debug}
 use Rattle.debugger.specs.declared.commands.DebugCommand.TheVariants.{Resume}
 use Rattle.debugger.specs.declared.replies.StepReply.{StepReply}
-use Rattle.debugger.specs.declared.replies.ShowReply.{ShowReply}
+use Rattle.debugger.specs.declared.show.ShowReply.{ShowReply}
 use Rattle.debugger.specs.declared.replies.Debugged.{Debugged}
 use Rattle.debugger.specs.declared.replies.Debugged.TheVariants.{Done}
 use Rattle.debugger.specs.Debuggees.{debuggee_start}

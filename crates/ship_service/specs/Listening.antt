@@ -5,6 +5,8 @@ use Rattle.streams.specs.Streams.{AppendsPart}
 use Rattle.listener.specs.Announcing.{listening_at}
 use Rattle.atomic_table.specs.Seated.{TableId}
 use Rattle.object_store.specs.Parts.{AllHere, IsFirstAway}
+use Rattle.object_store.specs.declared.errors.PartsError.{PartsError}
+use Rattle.object_store.specs.declared.errors.PartsError.TheVariants as parts_error
 use Rattle.shared_objects.specs.declared.seats.ActorSeat.{ActorSeat}
 use Rattle.machine.specs.MachineState.{MachineState}
 use Rattle.workers.specs.Moves.{MoverState}
@@ -17,8 +19,6 @@ use Rattle.ship_service.specs.Conversed.{HadOneClient}
 use Rattle.ship_service.specs.ClosingLines.{closing_lines}
 use Rattle.ship_service.specs.Opening.{first_mover_view, opened_bytes}
 use Rattle.placement.specs.declared.places.Place.{Place}
-use Rattle.ship_service.specs.declared.opened.OpenAgent.{OpenAgent}
-use Rattle.ship_service.specs.declared.opened.OpenAgent.TheVariants as open_agent
 use Rattle.ship_service.specs.declared.threads.ThreadFault.{ThreadFault}
 use Rattle.ship_service.specs.declared.threads.ThreadFault.TheVariants as thread_fault
 use Rattle.ship_service.specs.declared.listening.ListenFault.{ListenFault}
@@ -31,9 +31,9 @@ closed_line = codes "closed" ++ 10 ∷ []
 -- ---- why it ends
 
 -- where no agent is opened
-abbrev pub of_opening : OpenAgent → ListenFault
-of_opening (open_agent.NotHere n) = NotHere n
-of_opening open_agent.Memory = Memory
+abbrev pub of_opening : PartsError → ListenFault
+of_opening (parts_error.NotHere n) = NotHere n
+of_opening parts_error.Memory = Memory
 
 -- where its threads end before all its connections have
 abbrev pub of_threads : ThreadFault → ListenFault

@@ -1,9 +1,7 @@
 -- A world is opened for many connections: its objects become a table, which its machines and the connections share.
 use Rattle.std.specs.Prelude.{◌≡◌, ℕ, ◌+◌, Bool, true, List, [], ◌∷◌, length, map, replicate, None}
 use Rattle.atomic_table.specs.Seated.{TableId}
-use Rattle.object_store.specs.Parts.{AllHere, IsFirstAway, bodies_of}
-use Rattle.object_store.specs.declared.errors.PartsError.{PartsError}
-use Rattle.object_store.specs.declared.errors.PartsError.TheVariants as parts_error
+use Rattle.object_store.specs.Parts.{bodies_of}
 pub use Rattle.scopes.specs.Windows.{machine_limit}
 use Rattle.shared_objects.specs.declared.seats.ActorSeat.{ActorSeat}
 use Rattle.shared_objects.specs.declared.table.SharedTable.{SharedTable}
@@ -16,8 +14,6 @@ use Rattle.workers.specs.TableNames.{Passage, each_passed}
 use Rattle.workers.specs.Moves.{MoverState}
 use Rattle.workers.specs.Pools.{machines_of}
 use Rattle.world.specs.WorldState.{WorldState}
-use Rattle.ship_service.specs.declared.opened.OpenAgent.{OpenAgent}
-use Rattle.ship_service.specs.declared.opened.OpenAgent.TheVariants.{NotHere, Memory}
 
 -- ---- limits
 
@@ -35,16 +31,6 @@ seat_count = machine_limit + connection_limit
 -- was ever made, one body without bytes, at number 1.
 abbrev pub opened_bytes : WorldState → List (List ℕ)
 opened_bytes w = [] ∷ bodies_of w.store.objects
-
--- Why a world isn't opened: the least number whose object isn't here, or, where all are here, that memory ran out.
-abbrev pub RefusesWorld : WorldState → OpenAgent → Type 0
-RefusesWorld w (NotHere n) = IsFirstAway w.store.places n
-RefusesWorld w Memory = AllHere w.store.places
-
--- why no agent is opened of a world that can't be taken apart
-abbrev pub of_parts : PartsError → OpenAgent
-of_parts (parts_error.NotHere n) = NotHere n
-of_parts parts_error.Memory = Memory
 
 -- ---- seats
 

@@ -2,72 +2,35 @@
 ghost use Rattle.std.specs.Prelude.{◌≡◌, ◌≤◌, ◌+◌, length, map, All, IfOk, IfErr, OnOk};
 ghost use Rattle.console.specs.Held.{nothing_held};
 ghost use Rattle.far_store.specs.Calls.{Calls};
-ghost use Rattle.object_store.specs.Parts.{AllHere, forgets_all};
+ghost use Rattle.object_store.specs.Parts.{AllHere, RefusesParts, forgets_all};
+ghost use Rattle.object_store.specs.declared.errors.PartsError.{PartsError as OpenAgent};
 ghost use Rattle.world.specs.WorldState.{state_of};
 ghost use Rattle.memory.specs.Objects.{object_limit};
 ghost use Rattle.shared_objects.specs.Opened.{AreFresh, IsActorOf, IsMoverOf, dealer, seated};
 ghost use Rattle.shared_objects.specs.Opening.{opening_bytes};
 ghost use Rattle.shared_objects.specs.Tables.{table_opening};
 ghost use Rattle.workers.specs.Cells.{IsSeatOf};
-ghost use Rattle.ship_service.specs.declared.opened.OpenAgent.{OpenAgent};
-ghost use Rattle.ship_service.specs.Opening.{machine_limit, AreFreshSeats, IsNamed, RefusesWorld, connection_limit, first_mover, of_parts, opened_bytes, seat_count};
+ghost use Rattle.ship_service.specs.Opening.{machine_limit, AreFreshSeats, IsNamed, connection_limit, first_mover, opened_bytes, seat_count};
 
 use crate::connection::Connection;
 use crate::shared_agent::Agent;
 use debugger::Debuggee;
 use far_store::FarStore;
-use object_store::PartsError;
 use scopes::MACHINE_LIMIT;
-use shared_objects::{ActorSeat, MoverSeat, OpenFault, Shared};
+use shared_objects::{ActorSeat, MoverSeat, Shared};
 use std::alloc::{AllocError, Global};
 use std::sync::Wait;
-use thiserror::Error;
 use workers::{Mover, Pool, TableName};
 use world::{World, WorldParts};
+
+/// Why no agent is opened: its world isn't taken apart, or there is no memory. What it was to be opened with is dropped.
+pub use object_store::PartsError as OpenAgent;
 
 /// How many connections there are: this project's choice.
 pub const CONNECTION_LIMIT: usize = 8;
 
 /// How many actors have seats: the machines, and then the connections.
 const SEAT_COUNT: usize = MACHINE_LIMIT + CONNECTION_LIMIT;
-
-/// Why no agent is opened. What it was to be opened with is dropped.
-#[derive(Clone, Copy, Drop, Debug, PartialEq, Eq, Error)]
-pub enum OpenAgent {
-    /// The object of this number isn't here, the least one.
-    #[error("object {0} isn't here")]
-    NotHere(u32),
-    /// Out of memory.
-    #[error("no memory")]
-    Memory,
-}
-
-impl From<PartsError> for OpenAgent {
-    ghost from_gives = { λ refused why. why ≡ of_parts refused };
-
-    fn from(refused: PartsError) -> OpenAgent {
-        match refused {
-            PartsError::NotHere(number) => OpenAgent::NotHere(number),
-            PartsError::Memory => OpenAgent::Memory,
-        }
-    }
-}
-
-impl From<OpenFault> for OpenAgent {
-    ghost from_gives = { λ _ why. why ≡ OpenAgent.Memory };
-
-    fn from(_refused: OpenFault) -> OpenAgent {
-        OpenAgent::Memory
-    }
-}
-
-impl From<AllocError> for OpenAgent {
-    ghost from_gives = { λ _ why. why ≡ OpenAgent.Memory };
-
-    fn from(_refused: AllocError) -> OpenAgent {
-        OpenAgent::Memory
-    }
-}
 
 /// What a world became: a table of its objects that nobody uses yet, with the seats of all who will, its machines, and its far
 /// store.
@@ -89,18 +52,21 @@ pub struct Opened<F: FarStore> {
 fn open_parts<F: FarStore + Drop>(
     alloc: Global,
     parts: WorldParts<F>,
-) -> Result<Opened<F>, OpenFault>
+) -> Result<Opened<F>, OpenAgent>
     requires few { (length parts.machines.items ≤ machine_limit) × (length parts.bodies.items ≤ object_limit) }
     ensures opening { IfOk result (λ opened. table_opening opened.shared.table ≡ opening_bytes parts.bodies) }
     ensures machines { IfOk result (λ opened. opened.machines ≡ parts.machines) }
     ensures store { IfOk result (λ opened. opened.store ≡ parts.store) }
+    ensures refused { IfErr result (λ why. why ≡ OpenAgent.Memory) }
 {
     let WorldParts {
         machines,
         bodies,
         store,
     } = parts;
-    let (shared, seats, mover) = Shared::open(alloc, bodies, SEAT_COUNT)?;
+    let Ok((shared, seats, mover)) = Shared::open(alloc, bodies, SEAT_COUNT) else {
+        return Err(OpenAgent::Memory);
+    };
     Ok(Opened {
         shared,
         seats,
@@ -119,10 +85,10 @@ impl<F: FarStore + Drop> Opened<F> {
         ensures opening { IfOk result (λ opened. table_opening opened.shared.table ≡ opened_bytes (state_of world)) }
         ensures machines { IfOk result (λ opened. opened.machines.items ≡ world.machines) }
         ensures store { IfOk result (λ opened. Calls F.called world.store.far (forgets_all world.store.sent) opened.store) }
-        ensures refused { IfErr result (λ why. RefusesWorld (state_of world) why) }
+        ensures refused { IfErr result (λ why. RefusesParts world.store.state why) }
     {
         let parts = world.into_parts()?;
-        Ok(open_parts(alloc, parts)?)
+        open_parts(alloc, parts)
     }
 
     /// The same over another far store than the world's, which is dropped.
@@ -135,7 +101,7 @@ impl<F: FarStore + Drop> Opened<F> {
         ensures opening { IfOk result (λ opened. table_opening opened.shared.table ≡ opened_bytes (state_of world)) }
         ensures machines { IfOk result (λ opened. opened.machines.items ≡ world.machines) }
         ensures store { IfOk result (λ opened. opened.store ≡ store) }
-        ensures refused { IfErr result (λ why. RefusesWorld (state_of world) why) }
+        ensures refused { IfErr result (λ why. RefusesParts world.store.state why) }
     {
         let WorldParts {
             machines,
@@ -147,7 +113,7 @@ impl<F: FarStore + Drop> Opened<F> {
             bodies,
             store,
         };
-        Ok(open_parts(alloc, parts)?)
+        open_parts(alloc, parts)
     }
 }
 

@@ -22,10 +22,10 @@ use Rattle.machine.specs.Replay.{IsReplay}
 use Rattle.debugger.specs.declared.commands.Way.{Way}
 use Rattle.debugger.specs.declared.commands.Way.TheVariants as way
 use Rattle.debugger.specs.declared.commands.DebugCommand.{DebugCommand}
-use Rattle.debugger.specs.declared.commands.ShowCommand.{ShowCommand}
+use Rattle.debugger.specs.declared.show.ShowCommand.{ShowCommand}
 use Rattle.debugger.specs.declared.replies.StepReply.{StepReply}
 use Rattle.debugger.specs.declared.replies.StepReply.TheVariants.{Ran}
-use Rattle.debugger.specs.declared.replies.ShowReply.{ShowReply}
+use Rattle.debugger.specs.declared.show.ShowReply.{ShowReply}
 use Rattle.debugger.specs.declared.replies.Debugged.{Debugged}
 use Rattle.debugger.specs.declared.debuggee.Debuggee.{Debuggee}
 use Rattle.debugger.specs.Debuggees.{AnswersStep, DebugsMachine}

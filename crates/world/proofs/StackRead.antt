@@ -4,10 +4,10 @@ use Rattle.std.specs.Prelude.{slice_get}
 use Rattle.object_store.specs.Stores.{StoreState, store_memory}
 use Rattle.debugger.specs.Showing.{ShowsBytes}
 use Rattle.debugger.specs.declared.commands.MachineCommand.TheVariants.{Show}
-use Rattle.debugger.specs.declared.commands.ShowCommand.TheVariants.{Stack}
+use Rattle.debugger.specs.declared.show.ShowCommand.TheVariants.{Stack}
 use Rattle.debugger.specs.declared.debuggee.Debuggee.{Debuggee}
-use Rattle.debugger.specs.declared.replies.ShowReply.{ShowReply}
-use Rattle.debugger.specs.declared.replies.ShowReply.TheVariants as show_reply
+use Rattle.debugger.specs.declared.show.ShowReply.{ShowReply}
+use Rattle.debugger.specs.declared.show.ShowReply.TheVariants as show_reply
 use Rattle.world.specs.declared.replies.Reply.{Reply}
 use Rattle.world.specs.declared.replies.Reply.TheVariants.{Shown}
 use Rattle.world.specs.declared.stack.StackError.{StackError}

@@ -18,12 +18,12 @@ use Rattle.debugger.specs.declared.commands.Way.{Way}
 use Rattle.debugger.specs.declared.commands.Way.TheVariants as way
 use Rattle.debugger.specs.declared.commands.MachineCommand.{MachineCommand}
 use Rattle.debugger.specs.declared.commands.MachineCommand.TheVariants.{Step, Show, Debug}
-use Rattle.debugger.specs.declared.commands.ShowCommand.{ShowCommand}
-use Rattle.debugger.specs.declared.commands.ShowCommand.TheVariants.{Regs, Out, Stack, Line}
+use Rattle.debugger.specs.declared.show.ShowCommand.{ShowCommand}
+use Rattle.debugger.specs.declared.show.ShowCommand.TheVariants.{Regs, Out, Stack, Line}
 use Rattle.debugger.specs.declared.replies.StepReply.{StepReply}
 use Rattle.debugger.specs.declared.replies.StepReply.TheVariants as step_reply
-use Rattle.debugger.specs.declared.replies.ShowReply.{ShowReply}
-use Rattle.debugger.specs.declared.replies.ShowReply.TheVariants as show_reply
+use Rattle.debugger.specs.declared.show.ShowReply.{ShowReply}
+use Rattle.debugger.specs.declared.show.ShowReply.TheVariants as show_reply
 use Rattle.debugger.specs.declared.shown.State.{State}
 use Rattle.debugger.specs.declared.shown.Shown.{Shown}
 use Rattle.debugger.specs.declared.debuggee.Debuggee.{Debuggee}
@@ -137,11 +137,11 @@ unpaused_state (Some s) paused = refl
 unpaused_state None true = refl
 unpaused_state None false = refl
 
-shown_undebugged : (d : Debuggee) (shown : Shown) → shown ≡ shown_of d.machine d.debugger
-    → record shown { state = unpaused shown.state } ≡ shown_of d.machine debug_start
-shown_undebugged d shown e =
-    ap (λ (s : Shown). record s { state = unpaused s.state }) e
-    ∙ ap (λ (s : State). record (shown_of d.machine debug_start) { state = s }) (unpaused_state d.machine.stop d.debugger.paused)
+shown_undebugged : (d : Debuggee)
+    → unshown (show_reply.Registers (shown_of d.machine d.debugger)) ≡ show_reply.Registers (shown_of d.machine debug_start)
+shown_undebugged d =
+    ap (λ (s : State). show_reply.Registers (record (shown_of d.machine debug_start) { state = s }))
+    (unpaused_state d.machine.stop d.debugger.paused)
 
 bytes_undebugged : (bytes : List ℕ) (offset size : ℕ) (replied : ShowReply) → ShowsBytes bytes offset size replied → ShowsBytes bytes offset size (unshown replied)
 bytes_undebugged bytes offset size replied h = grind arith
@@ -150,11 +150,10 @@ line_undebugged : (code : List ℕ) (slot : ℕ) (replied : ShowReply) → Shows
 line_undebugged code slot replied h = grind arith
 
 show_undebugged : (c : ShowCommand) (d : Debuggee) (replied : ShowReply) → Shows c d replied → Shows c (undebugged_machine d) (unshown replied)
-show_undebugged Regs d (show_reply.Registers shown) h = shown_undebugged d shown h
-show_undebugged Out d (show_reply.Emitted values) h = h
+show_undebugged Regs d replied h = ap unshown h ∙ shown_undebugged d
 show_undebugged (Stack offset size) d replied h = bytes_undebugged d.machine.stack offset size replied h
 show_undebugged (Line slot) d replied h = line_undebugged d.machine.code slot replied h
-show_undebugged _ d _ h = absurd h
+show_undebugged _ d replied h = ap unshown h
 
 -- ---- commands
 

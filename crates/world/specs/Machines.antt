@@ -4,8 +4,8 @@ use Rattle.memory.specs.Memories.{Memories}
 use Rattle.debugger.specs.declared.commands.MachineCommand.{MachineCommand}
 use Rattle.debugger.specs.declared.commands.MachineCommand.TheVariants.{Step, Show, Debug}
 use Rattle.debugger.specs.declared.replies.StepReply.{StepReply}
-use Rattle.debugger.specs.declared.replies.ShowReply.{ShowReply}
-use Rattle.debugger.specs.declared.replies.ShowReply.TheVariants as show_reply
+use Rattle.debugger.specs.declared.show.ShowReply.{ShowReply}
+use Rattle.debugger.specs.declared.show.ShowReply.TheVariants as show_reply
 use Rattle.debugger.specs.declared.replies.Debugged.{Debugged}
 use Rattle.debugger.specs.declared.debuggee.Debuggee.{Debuggee}
 use Rattle.debugger.specs.Showing.{Shows}

@@ -8,8 +8,8 @@ use Rattle.debugger.specs.declared.shown.State.TheVariants as state
 use Rattle.debugger.specs.declared.debuggee.Debuggee.{Debuggee}
 use Rattle.debugger.specs.declared.replies.StepReply.{StepReply}
 use Rattle.debugger.specs.declared.replies.StepReply.TheVariants.{Ran, Hit, Paused}
-use Rattle.debugger.specs.declared.replies.ShowReply.{ShowReply}
-use Rattle.debugger.specs.declared.replies.ShowReply.TheVariants.{Registers}
+use Rattle.debugger.specs.declared.show.ShowReply.{ShowReply}
+use Rattle.debugger.specs.declared.show.ShowReply.TheVariants.{Registers}
 use Rattle.world.specs.declared.replies.Reply.{Reply}
 use Rattle.world.specs.declared.replies.Reply.TheVariants.{Stepped, Shown}
 use Rattle.world.specs.declared.events.Event.{Event}

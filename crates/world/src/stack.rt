@@ -3,8 +3,8 @@ ghost use Rattle.std.specs.Prelude.{◌≡◌, length, OnOk, OnErr, IfErr};
 ghost use Rattle.object_store.specs.Stores.{StoreState, store_memory};
 ghost use Rattle.debugger.specs.Showing.{ShowsBytes};
 ghost use Rattle.debugger.specs.declared.commands.MachineCommand.{MachineCommand};
-ghost use Rattle.debugger.specs.declared.commands.ShowCommand.{ShowCommand};
-ghost use Rattle.debugger.specs.declared.replies.ShowReply.{ShowReply};
+ghost use Rattle.debugger.specs.declared.show.ShowCommand.{ShowCommand};
+ghost use Rattle.debugger.specs.declared.show.ShowReply.{ShowReply};
 ghost use Rattle.world.specs.declared.replies.Reply.{Reply};
 ghost use Rattle.world.specs.Machines.{AnswersMachine, refused_stack};
 

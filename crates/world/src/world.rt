@@ -11,8 +11,8 @@ ghost use Rattle.debugger.specs.declared.commands.MachineCommand.{MachineCommand
 ghost use Rattle.world.specs.Run.{Runs};
 ghost use Rattle.world.specs.WorldState.{opened_world, state_of};
 ghost use Rattle.world.specs.Asking.{AsksToMake, AsksToPut, AsksMove, AsksObject, Asks, AnswersWithin};
-ghost use Rattle.debugger.specs.declared.commands.ShowCommand.{ShowCommand};
-ghost use Rattle.debugger.specs.declared.replies.ShowReply.{ShowReply};
+ghost use Rattle.debugger.specs.declared.show.ShowCommand.{ShowCommand};
+ghost use Rattle.debugger.specs.declared.show.ShowReply.{ShowReply};
 ghost use Rattle.world.specs.Machines.{AnswersMachine, reply_of, refused_stack};
 ghost use Rattle.world.specs.Running.{RunsMachine, RunAsks};
 ghost use Rattle.world.specs.Unseen.{IsPlainRun};

@@ -1,10 +1,11 @@
 -- What is proved of each move, and of freeing: what it does to the store, its replies as the first need that isn't met, and
 -- that it looks neither at the count of faults nor at the bytes of another object.
-use Rattle.std.proofs.Common.{◌≡◌, ◌≢◌, ℕ, ◌<◌, Bool, true, false, List, [], ◌∷◌, length, inl, inr, refl, ap, sym, ◌∙◌, subst, arith}
+use Rattle.std.proofs.Common.{◌≡◌, ◌≢◌, ℕ, ◌<◌, ◌≤◌, ◌+◌, Bool, true, false, List, [], ◌∷◌, length, inl, inr, refl, ap, sym, ◌∙◌, subst, arith}
 use Rattle.memory.specs.Objects.{IsLive, bytes_of, with_bytes}
 use Rattle.memory.proofs.Accesses.{set_commutes}
-use Rattle.object_store.specs.Stores.{StoreState, HasRoom, IsScoped, StandsAt, place_of, with_place}
+use Rattle.object_store.specs.Stores.{StoreState, HasRisen, HasRoom, IsScoped, StandsAt, near_bytes, near_length, place_of, with_place}
 use Rattle.object_store.specs.Calls.{RefusesMove, Frees, BeginsLeave, EndsLeave, BeginsReturn, EndsReturn}
+use Rattle.far_store.specs.declared.fault.StoreFault.{StoreFault}
 use Rattle.placement.specs.declared.places.Place.{Place}
 use Rattle.placement.specs.declared.places.Place.TheVariants as place
 use Rattle.placement.specs.declared.places.Moved.{Moved}
@@ -14,7 +15,7 @@ use Rattle.world.specs.declared.replies.Reply.{Reply}
 use Rattle.world.specs.declared.replies.Reply.TheVariants as reply
 use Rattle.world.specs.declared.world.moving.Move.{Move as MoveKind}
 use Rattle.world.specs.declared.world.moving.Move.TheVariants as move
-use Rattle.world.specs.Moves.{Moves as MovesSo}
+use Rattle.world.specs.Moves.{Moves as MovesSo, place_past, place_before}
 use Rattle.world_laws.specs.Replies.{is_settled}
 use Rattle.world_laws.proofs.Blinded.{Leaves, Suits, blind, leaves_objects, leaves_same, leaves_set, near_same, other}
 use Rattle.world_laws.proofs.StoreCalls.{Move, Refused, Moves}
@@ -26,78 +27,60 @@ refused at old new n moved.NoObject kind h = Refused refl h.1
 refused at old new n (moved.Misplaced q) kind h = Refused refl h.2
 refused at old new n _ kind h = absurd h
 
-begun_leave : (old new : StoreState) (n : ℕ) (m : Moved) → BeginsLeave old n m new → Move old n (reply.Moved n move.Leave m) new
-begun_leave old new n moved.Done h = Moves place.Here place.Leaving old.faults
+-- it keeps the budget
+abbrev Fits : Place → Place → StoreState → ℕ → Type 0
+Fits «from» to old n = near_bytes old.objects old.places ≤ old.budget
+    → near_bytes old.objects old.places + near_length to (bytes_of old.objects n) ≤ old.budget + near_length «from» (bytes_of old.objects n)
+
+done : (kind : MoveKind) («from» : Place) (old new : StoreState) (n faults : ℕ) → StandsAt «from» old n → Fits «from» (place_past kind) old n
+    → («from» ≡ place.Here → IsScoped old n → ⊥) → new ≡ record (with_place old n (place_past kind)) { faults = faults }
+    → Move old n (reply.Moved n kind moved.Done) new
+done kind «from» old new n faults stands fits unscoped e = Moves «from» (place_past kind) faults
     (record {
-      stands = h.0;
-      fits = λ g. omega (arith, g);
-      unscoped = λ e. h.1;
+      stands = stands;
+      fits = fits;
+      unscoped = unscoped;
       done = refl;
       replied = λ k p. refl;
       is_unmade = refl;
-      fault = λ k p e. absurd e;
-    }) h.2
+      fault = λ k p tells. absurd tells;
+    }) e
+
+failed : (kind : MoveKind) («from» : Place) (f : StoreFault) (old new : StoreState) (n : ℕ) → StandsAt «from» old n
+    → Fits «from» (place_before kind) old n → («from» ≡ place.Here → ⊥) → HasRisen old.faults new.faults
+    → new ≡ record (with_place old n (place_before kind)) { faults = new.faults } → Move old n (reply.Moved n kind (moved.Fault f)) new
+failed kind «from» f old new n stands fits away risen e = Moves «from» (place_before kind) new.faults
+    (record {
+      stands = stands;
+      fits = fits;
+      unscoped = λ here scoped. away here;
+      done = refl;
+      replied = λ k p. refl;
+      is_unmade = refl;
+      fault = λ k p tells. (risen, sym tells.0, tells.1);
+    }) e
+
+begun_leave : (old new : StoreState) (n : ℕ) (m : Moved) → BeginsLeave old n m new → Move old n (reply.Moved n move.Leave m) new
+begun_leave old new n moved.Done h = done move.Leave place.Here old new n old.faults h.0 (λ g. omega (arith, g)) (λ e. h.1) h.2
 begun_leave old new n moved.Scoped h = Refused refl h.2
 begun_leave old new n m h = refused place.Here old new n m move.Leave h
 
 ended_leave : (old new : StoreState) (n : ℕ) (m : Moved) → EndsLeave old n m new → Move old n (reply.Moved n move.Left m) new
-ended_leave old new n moved.Done h = Moves place.Leaving place.Far new.faults
-    (record {
-      stands = h.0;
-      fits = λ g. omega (arith, g);
-      unscoped = λ e. absurd (cc);
-      done = refl;
-      replied = λ k p. refl;
-      is_unmade = refl;
-      fault = λ k p e. absurd e;
-    }) h.2
-ended_leave old new n (moved.Fault f) h = Moves place.Leaving place.Here new.faults
-    (record {
-      stands = h.0;
-      fits = λ g. omega (arith, g);
-      unscoped = λ e. absurd (cc);
-      done = refl;
-      replied = λ k p. refl;
-      is_unmade = refl;
-      fault = λ k p e. (h.1, sym e.0, e.1);
-    }) h.2
+ended_leave old new n moved.Done h = done move.Left place.Leaving old new n new.faults h.0 (λ g. omega (arith, g)) (λ e. absurd (cc)) h.2
+ended_leave old new n (moved.Fault f) h = failed move.Left place.Leaving f old new n h.0 (λ g. omega (arith, g)) (λ e. absurd (cc)) h.1 h.2
 ended_leave old new n m h = refused place.Leaving old new n m move.Left h
 
 begun_return : (old new : StoreState) (n : ℕ) (m : Moved) → BeginsReturn old n m new → Move old n (reply.Moved n move.Return m) new
-begun_return old new n moved.Done h = Moves place.Far place.Returning old.faults
-    (record {
-      stands = h.0;
-      fits = λ g. omega (arith, h.1);
-      unscoped = λ e. absurd (cc);
-      done = refl;
-      replied = λ k p. refl;
-      is_unmade = refl;
-      fault = λ k p e. absurd e;
-    }) h.2
+begun_return old new n moved.Done h =
+    done move.Return place.Far old new n old.faults h.0 (λ g. omega (arith, h.1)) (λ e. absurd (cc)) h.2
 begun_return old new n moved.NoRoom h = Refused refl h.2
 begun_return old new n m h = refused place.Far old new n m move.Return h
 
 ended_return : (old new : StoreState) (n : ℕ) (m : Moved) → EndsReturn true old n m new → Move old n (reply.Moved n move.Returned m) new
-ended_return old new n moved.Done h = Moves place.Returning place.Here old.faults
-    (record {
-      stands = h.0;
-      fits = λ g. omega (arith, g);
-      unscoped = λ e. absurd (cc);
-      done = refl;
-      replied = λ k p. refl;
-      is_unmade = refl;
-      fault = λ k p e. absurd e;
-    }) h.1
-ended_return old new n (moved.Fault f) h = Moves place.Returning place.Far new.faults
-    (record {
-      stands = h.0;
-      fits = λ g. omega (arith, g);
-      unscoped = λ e. absurd (cc);
-      done = refl;
-      replied = λ k p. refl;
-      is_unmade = refl;
-      fault = λ k p e. (h.1, sym e.0, e.1);
-    }) h.2
+ended_return old new n moved.Done h =
+    done move.Returned place.Returning old new n old.faults h.0 (λ g. omega (arith, g)) (λ e. absurd (cc)) h.1
+ended_return old new n (moved.Fault f) h =
+    failed move.Returned place.Returning f old new n h.0 (λ g. omega (arith, g)) (λ e. absurd (cc)) h.1 h.2
 ended_return old new n m h = refused place.Returning old new n m move.Returned h
 
 pub store_move : (k : MoveKind) (old new : StoreState) (n : ℕ) (m : Moved) → MovesSo k old n m new

@@ -22,13 +22,13 @@ use Rattle.debugger.specs.declared.start.Start.{Start}
 use Rattle.debugger.specs.declared.commands.Way.{Way}
 use Rattle.debugger.specs.declared.commands.MachineCommand.{MachineCommand}
 use Rattle.debugger.specs.declared.commands.MachineCommand.TheVariants.{Step, Show, Debug}
-use Rattle.debugger.specs.declared.commands.ShowCommand.{ShowCommand}
-use Rattle.debugger.specs.declared.commands.ShowCommand.TheVariants.{Regs, Out, Stack, Line}
+use Rattle.debugger.specs.declared.show.ShowCommand.{ShowCommand}
+use Rattle.debugger.specs.declared.show.ShowCommand.TheVariants.{Regs, Out, Stack, Line}
 use Rattle.debugger.specs.declared.commands.DebugCommand.{DebugCommand}
 use Rattle.debugger.specs.declared.replies.StepReply.{StepReply}
 use Rattle.debugger.specs.declared.replies.StepReply.TheVariants as step_reply
-use Rattle.debugger.specs.declared.replies.ShowReply.{ShowReply}
-use Rattle.debugger.specs.declared.replies.ShowReply.TheVariants as show_reply
+use Rattle.debugger.specs.declared.show.ShowReply.{ShowReply}
+use Rattle.debugger.specs.declared.show.ShowReply.TheVariants as show_reply
 use Rattle.debugger.specs.declared.replies.Debugged.{Debugged}
 use Rattle.debugger.specs.declared.replies.Debugged.TheVariants as debug_reply
 use Rattle.debugger.specs.declared.debuggee.Debuggee.{Debuggee}
@@ -127,10 +127,6 @@ line_first m code n _ g p = absurd g
 
 show_once : (m : ℕ) (c : ShowCommand) (d : Debuggee) (a b : ShowReply) → Shows c d a → Shows c d b → is_settled (reply.Shown m a) ≡ true
     → is_settled (reply.Shown m b) ≡ true → a ≡ b
-show_once m Regs d (show_reply.Registers s) (show_reply.Registers t) g h p q = ap show_reply.Registers (g ∙ sym h)
-show_once m Regs d (show_reply.Registers s) _ g h p q = absurd h
-show_once m Out d (show_reply.Emitted v) (show_reply.Emitted u) g h p q = ap show_reply.Emitted (g ∙ sym h)
-show_once m Out d (show_reply.Emitted v) _ g h p q = absurd h
 show_once m (Stack o z) d a b g h p q =
     decides_once (λ r. o + z ≤ length d.machine.stack) (show_reply.Outside ∷ []) (show_reply.Bytes (take z (drop o d.machine.stack))) a b
     (bytes_first m d.machine.stack o z a g p) (bytes_first m d.machine.stack o z b h q)
@@ -138,7 +134,7 @@ show_once m (Line n) d a b g h p q =
     let code = d.machine.code in
     unless_once (IsAt code n) (λ (x : ShowReply). x ≡ show_reply.NoSlot) (TellsLine code n) (this_once show_reply.NoSlot) (one_line code n) a b
     (line_first m code n a g p) (line_first m code n b h q)
-show_once m _ d _ _ g h p q = absurd g
+show_once m _ d a b g h p q = g ∙ sym h
 
 -- ---- steps
 

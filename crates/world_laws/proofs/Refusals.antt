@@ -1,7 +1,7 @@
 -- What is refused, and what is shown, changes nothing.
 use Rattle.std.proofs.Common.{◌≡◌, ℕ, Bool, true, inl, inr, ap}
 use Rattle.object_store.specs.Stores.{store_memory}
-use Rattle.debugger.specs.declared.commands.ShowCommand.{ShowCommand}
+use Rattle.debugger.specs.declared.show.ShowCommand.{ShowCommand}
 use Rattle.debugger.specs.declared.commands.MachineCommand.TheVariants.{Show}
 use Rattle.world.specs.declared.replies.Reply.{Reply}
 use Rattle.world.specs.declared.events.Event.{Event}

@@ -11,7 +11,7 @@ use Rattle.debugger.specs.declared.debuggee.Debuggee.{Debuggee}
 use Rattle.world.specs.declared.replies.Reply.{Reply}
 use Rattle.world.specs.declared.replies.Reply.TheVariants.{Made, Done, Bytes, Shipped, NoMemory, Full, NoRoom, Outside, Away, Refused, Missing}
 use Rattle.world.specs.declared.replies.Reply.TheVariants as answer
-use Rattle.debugger.specs.declared.replies.ShowReply.TheVariants as show_reply
+use Rattle.debugger.specs.declared.show.ShowReply.TheVariants as show_reply
 use Rattle.debugger.specs.declared.replies.Debugged.TheVariants as debugged
 use Rattle.debugger.specs.declared.commands.MachineCommand.{MachineCommand}
 use Rattle.debugger.specs.declared.commands.MachineCommand.TheVariants.{Step, Show, Debug}

@@ -1,6 +1,6 @@
 use Rattle.std.proofs.Common.{rules, ◌≡◌, length, true, Some, sym, subst, ◌∙◌}
 use Rattle.debugger.specs.declared.commands.MachineCommand.TheVariants.{Show}
-use Rattle.debugger.specs.declared.commands.ShowCommand.TheVariants.{Stack}
+use Rattle.debugger.specs.declared.show.ShowCommand.TheVariants.{Stack}
 use Rattle.library_store.specs.Calls.{LibraryState}
 use Rattle.world.specs.Answers.{Answers}
 use Rattle.world.specs.Machines.{refused_stack}
@@ -8,7 +8,7 @@ use Rattle.world.specs.WorldState.{WorldWithin, state_of}
 use Rattle.world.specs.declared.events.Event.TheVariants.{Machine}
 use Rattle.world.specs.declared.replies.Reply.{Reply}
 use Rattle.world.specs.declared.replies.Reply.TheVariants.{Shown}
-use Rattle.debugger.specs.declared.replies.ShowReply.TheVariants.{Bytes}
+use Rattle.debugger.specs.declared.show.ShowReply.TheVariants.{Bytes}
 use Rattle.bpfagent_c.proofs.Reading.{over_as_many, stack_shows_nothing}
 use Rattle.bpfagent_c.proofs.debugging.bpfagent_stack.Goals as goal
 use Rattle.bpfagent_c.proofs.debugging.bpfagent_stack.Goals.{in-Ok, in-Err}
