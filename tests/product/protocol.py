@@ -18,6 +18,7 @@ from typing import Iterator, NamedTuple
 
 sys.path.insert(0, str(pathlib.Path(__file__).resolve().parents[1]))
 from lib.checks import Failed, report, want
+from lib.commands import ROW
 from lib.programs import SECONDS, ended, patience, unreadable
 from lib.sources import ROOT
 
@@ -34,8 +35,6 @@ LINE = re.compile(r"(?P<command>[a-z]\w*(?: (?:[a-z]|[A-Z]\w*|\.\.))*)(?: +(?P<r
 COLUMN = 36
 CLIENT = ROOT / "python/bpfagent/agent.py"
 HEADER = ROOT / "include/bpfagent.h"
-# A line of the program's table: the command's name, the limits of its numbers, how many bytes come at most, and whether words that grant do.
-ROW = re.compile(r"(?P<name>[a-z]\w*)(?P<limits>(?: \d+-\d+)*)(?: bytes-(?P<bytes>\d+))?(?P<grants> grants)?")
 # What the synopsis calls a number with these limits. Any number is an address, and six of them begin a machine.
 ANY, RANGE_LENGTH = "0-18446744073709551615", "1-4096"
 WORDS = {"1-1024": "n", "1-48": "m", "1-65536": "LENGTH", RANGE_LENGTH: "LENGTH", "0-65535": "OFFSET", "0-4095": "SLOT", ANY: "ADDRESS"}
