@@ -12,7 +12,7 @@ from instructions import Fault, load
 from interpreter import MACHINES, OBJECTS, Machine, Object
 from lib.commands import Form, commands
 
-NUMBER = re.compile(r"0|[1-9][0-9]*|0x[0-9a-fA-F]{1,16}")
+NUMBER = re.compile(r"0|[1-9][0-9]{0,19}|0x[0-9a-fA-F]{1,16}")
 GRANT = re.compile(rf"([rw])({NUMBER.pattern})")
 BYTES = re.compile(r"(?:[0-9a-fA-F]{2})+")
 LINE = 70000
