@@ -38,8 +38,8 @@ DEPLOY = ROOT / "deploy"
 # What is installed together, by the name of its Debian package. The last one's commands are installed by setup.py, so `make install` leaves it out.
 TOOL, SHARED, DEVELOPMENT, PYTHON = "bpfagent", "libbpfagent0", "libbpfagent-dev", "python3-bpfagent"
 PARTS = (TOOL, SHARED, DEVELOPMENT, PYTHON)
-# Pages, and what they show. Links between them lead on where they are installed.
-DOCUMENTS = ("*.md", "docs/*.md", "docs/*.svg", "python/README.md", "examples/**/*")
+# Pages, and what they show, with the headers that examples include. Links between them lead on where they are installed.
+DOCUMENTS = ("*.md", "docs/*.md", "docs/*.svg", "python/README.md", "python/bpfagent/include/*.h", "examples/**/*")
 # What examples leave when they are built, and test data.
 UNDOCUMENTED = {"out", "__pycache__", "node_modules"}
 UNITS = {TOOL: ("bpfagent@.service",), PYTHON: ("bpfagent-front@.service", "bpfagent-front@.socket")}

@@ -1,6 +1,7 @@
 /* Each allocation of a short conversation fails in turn: an answer is then that memory has run out, and nothing is lost. A call that takes
    no memory makes no allocation at all. It is linked with -Wl,--wrap=malloc,--wrap=realloc,--wrap=free. */
 #include "common.h"
+#include "machine_calls.h"
 
 void *__real_malloc(size_t);
 void *__real_realloc(void *, size_t);
@@ -42,9 +43,18 @@ static int note(uint32_t reply)
     return reply == BPFAGENT_OK;
 }
 
-/* A call that may run out of memory. Its places in `ran_out` tell that it did, at least once. */
-#define TAKES(number, call) took(number, #call, call)
-#define CALLS 11
+/* The calls that take memory. */
+#define NUMBERED_QUIET(name)
+#define NUMBERED_TAKES(name) OF_##name,
+#define NUMBERED(name, memory, arguments, right, answers) NUMBERED_##memory(name)
+enum {
+    OF_new, OF_new_handing, OF_make, OF_returned, OF_returned_from, OF_ship, OF_ship_granted, OF_assemble, OF_check, OF_text,
+    MACHINE_CALLS(NUMBERED)
+    CALLS
+};
+
+/* A call that may run out of memory. Its place in `ran_out` tells that it did, at least once. */
+#define TAKES(name, call) took(OF_##name, #call, call)
 static const char *names[CALLS];
 static unsigned ran_out[CALLS];
 
@@ -71,26 +81,17 @@ static int quiet(const char *name, uint32_t reply)
 /* *(u64 *)r1 = 7; r0 = *(u64 *)r1; exit */
 static const uint8_t CODE[] = { 0x7a, 1, 0, 0, 7, 0, 0, 0, 0x79, 0x10, 0, 0, 0, 0, 0, 0, 0x95, 0, 0, 0, 0, 0, 0, 0 };
 
+#define MADE_QUIET(name, call) QUIET(call);
+#define MADE_TAKES(name, call) TAKES(name, call);
+#define MADE(name, memory, arguments, right, answers) MADE_##memory(name, bpfagent_##name arguments)
+
 static void machine_of(bpfagent *agent, size_t machine)
 {
-    bpfagent_end end;
-    bpfagent_registers registers;
     uint8_t bytes[4096];
     uint64_t values[64];
-    size_t count;
+    struct machine_arguments with = { .slot = 1, .range = 8, .steps = 100, .bytes = bytes, .length = 4096, .values = values, .room = 64 };
 
-    QUIET(bpfagent_break(agent, machine, 1));
-    QUIET(bpfagent_unbreak(agent, machine, 1));
-    QUIET(bpfagent_watch(agent, machine, 0, 8));
-    QUIET(bpfagent_unwatch(agent, machine, 0, 8));
-    QUIET(bpfagent_step(agent, machine, &end));
-    QUIET(bpfagent_one(agent, machine, &end));
-    QUIET(bpfagent_resume(agent, machine));
-    QUIET(bpfagent_run(agent, machine, 100, &end));
-    QUIET(bpfagent_regs(agent, machine, &registers));
-    QUIET(bpfagent_out(agent, machine, values, 64, &count));
-    QUIET(bpfagent_stack(agent, machine, 0, bytes, 4096));
-    TAKES(0, bpfagent_line(agent, machine, 0, bytes, 256, &count));
+    MACHINE_CALLS(MADE)
 }
 
 static void conversation(void)
@@ -101,19 +102,19 @@ static void conversation(void)
     bpfagent_refusal refusal;
     uint8_t bytes[256] = { 1 };
 
-    if (!TAKES(1, bpfagent_new(&agent, 4096)))
+    if (!TAKES(new, bpfagent_new(&agent, 4096)))
         return;
-    if (TAKES(2, bpfagent_make(&agent, 8, &object))) {
+    if (TAKES(make, bpfagent_make(&agent, 8, &object))) {
         QUIET(bpfagent_put(&agent, object, 0, bytes, 8));
         QUIET(bpfagent_get(&agent, object, 0, bytes, 8));
         QUIET(bpfagent_leave(&agent, object));
         QUIET(bpfagent_left(&agent, object));
         QUIET(bpfagent_return(&agent, object));
-        TAKES(3, bpfagent_returned(&agent, object));
+        TAKES(returned, bpfagent_returned(&agent, object));
         QUIET(bpfagent_place_of(&agent, object, &place, &length));
         QUIET(bpfagent_objects(&agent, place, listed, 4, &count));
     }
-    if (TAKES(4, bpfagent_ship(&agent, CODE, sizeof CODE, 10, bpfagent_address(object, 0), 0, 0, 0, 0, &machine, &refusal)))
+    if (TAKES(ship, bpfagent_ship(&agent, CODE, sizeof CODE, 10, bpfagent_address(object, 0), 0, 0, 0, 0, &machine, &refusal)))
         machine_of(&agent, machine);
     QUIET(bpfagent_free(&agent, object));
     QUIET((bpfagent_delete(&agent), BPFAGENT_OK));
@@ -129,15 +130,15 @@ static void handed(void)
     uint32_t object = 0;
     size_t length = 0, machine;
 
-    if (!TAKES(5, bpfagent_new_handing(&agent, 4096)))
+    if (!TAKES(new_handing, bpfagent_new_handing(&agent, 4096)))
         return;
     bpfagent_grant reads = { 1, 0 };
-    TAKES(6, bpfagent_ship_granted(&agent, CODE, sizeof CODE, 10, 0, 0, 0, 0, 0, &reads, 1, &machine, &refusal));
+    TAKES(ship_granted, bpfagent_ship_granted(&agent, CODE, sizeof CODE, 10, 0, 0, 0, 0, 0, &reads, 1, &machine, &refusal));
     if (note(bpfagent_make(&agent, sizeof bytes, &object))) {
         QUIET(bpfagent_leave(&agent, object));
         QUIET(bpfagent_left_into(&agent, object, bytes, sizeof bytes, &length, &parcel));
         QUIET(bpfagent_return(&agent, object));
-        TAKES(7, bpfagent_returned_from(&agent, object, bytes, length));
+        TAKES(returned_from, bpfagent_returned_from(&agent, object, bytes, length));
         QUIET(bpfagent_leave(&agent, object));
         QUIET(bpfagent_left_into(&agent, object, bytes, sizeof bytes, &length, &parcel));
         QUIET(bpfagent_forget(&agent, object));
@@ -154,9 +155,9 @@ static void texts(void)
     uint8_t bytes[64] = { 1 };
     size_t count = 0;
 
-    TAKES(8, bpfagent_assemble((const uint8_t *)text, sizeof text - 1, bytes, sizeof bytes, &count, &wrong));
-    TAKES(9, bpfagent_check(CODE, sizeof CODE, &refusal));
-    TAKES(10, bpfagent_text(CODE, sizeof CODE, 1, bytes, sizeof bytes, &count));
+    TAKES(assemble, bpfagent_assemble((const uint8_t *)text, sizeof text - 1, bytes, sizeof bytes, &count, &wrong));
+    TAKES(check, bpfagent_check(CODE, sizeof CODE, &refusal));
+    TAKES(text, bpfagent_text(CODE, sizeof CODE, 1, bytes, sizeof bytes, &count));
     QUIET(bpfagent_state_name(BPFAGENT_IS_STOPPED, BPFAGENT_SPENT, bytes, sizeof bytes, &count));
     QUIET(bpfagent_place_name(BPFAGENT_FAR, bytes, sizeof bytes, &count));
     QUIET(bpfagent_reason_name(14, bytes, sizeof bytes, &count));

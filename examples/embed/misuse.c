@@ -1,6 +1,7 @@
 /* Each call with each of its answers but BPFAGENT_NOMEM, which `failing` brings about. It prints how many wrong calls there were, and ends
    with 1 if a call is answered otherwise. The library cannot test for null pointers and copied handles, so they aren't tried. */
 #include "common.h"
+#include "machine_calls.h"
 
 static unsigned wrong;
 
@@ -52,39 +53,59 @@ static void no_agent_of_objects(bpfagent *a)
     must(object == 77 && place == 77 && count == 77 && bytes[0] == 77 && parcel.digest[0] == 77, 1, "nothing was written");
 }
 
-/* The same of every call on machines. */
-static void no_agent_of_machines(bpfagent *a)
+/* The same of the calls that make a machine. */
+static void no_agent_of_code(bpfagent *a)
 {
-    size_t machine = 77, count = 77;
-    bpfagent_end end = { 77, 77, 77 };
-    bpfagent_registers registers = { { 77 }, 77, 77, 77, 77 };
+    size_t machine = 77;
     bpfagent_refusal refusal = { 77, 77 };
     bpfagent_grant grants[17] = { { 1, 1 } };
-    uint8_t bytes[8] = { 77 };
-    uint64_t values[2] = { 77 };
 
     wants(ship(a, CODE, sizeof CODE, 0, &machine, &refusal), BPFAGENT_NOAGENT, "ship");
     wants(bpfagent_ship_granted(a, CODE, sizeof CODE, 100, 0, 0, 0, 0, 0, grants, 1, &machine, &refusal), BPFAGENT_NOAGENT, "ship_granted");
     wants(bpfagent_ship_granted(a, CODE, sizeof CODE, 100, 0, 0, 0, 0, 0, grants, 17, &machine, &refusal), BPFAGENT_BAD, "17 grants");
-    wants(bpfagent_step(a, 1, &end), BPFAGENT_NOAGENT, "step");
-    wants(bpfagent_one(a, 1, &end), BPFAGENT_NOAGENT, "one");
-    wants(bpfagent_run(a, 1, 9, &end), BPFAGENT_NOAGENT, "run");
-    wants(bpfagent_regs(a, 1, &registers), BPFAGENT_NOAGENT, "regs");
-    wants(bpfagent_out(a, 1, values, 2, &count), BPFAGENT_NOAGENT, "out");
-    wants(bpfagent_stack(a, 1, 0, bytes, 8), BPFAGENT_NOAGENT, "stack");
-    wants(bpfagent_line(a, 1, 0, bytes, 8, &count), BPFAGENT_NOAGENT, "line");
-    wants(bpfagent_break(a, 1, 0), BPFAGENT_NOAGENT, "break");
-    wants(bpfagent_unbreak(a, 1, 0), BPFAGENT_NOAGENT, "unbreak");
-    wants(bpfagent_watch(a, 1, 0, 1), BPFAGENT_NOAGENT, "watch");
-    wants(bpfagent_unwatch(a, 1, 0, 1), BPFAGENT_NOAGENT, "unwatch");
-    wants(bpfagent_resume(a, 1), BPFAGENT_NOAGENT, "resume");
-    must(machine == 77 && count == 77 && end.ran == 77 && refusal.reason == 77, 1, "nothing was written");
-    must(registers.registers[0] == 77 && bytes[0] == 77 && values[0] == 77, 1, "nothing was written");
+    must(machine == 77 && refusal.reason == 77, 1, "nothing was written");
+}
+
+/* Fills the memory that calls on a machine may write with bytes of 77. */
+static void mark(struct machine_arguments *with)
+{
+    memset(with->bytes, 77, with->length);
+    memset(with->values, 77, with->room * sizeof *with->values);
+    memset(&with->told, 77, sizeof with->told);
+}
+
+static int is_77(const void *memory, size_t length)
+{
+    const uint8_t *bytes = memory;
+    size_t k = 0;
+    while (k < length && bytes[k] == 77) k++;
+    return k == length;
+}
+
+/* Whether it still holds them. */
+static int is_marked(const struct machine_arguments *with)
+{
+    return is_77(with->bytes, with->length) && is_77(with->values, with->room * sizeof *with->values) && is_77(&with->told, sizeof with->told);
+}
+
+/* A handle without an agent: every call on a machine. */
+static void no_agent_of_machines(bpfagent *agent)
+{
+    const size_t machine = 1;
+    uint8_t bytes[8];
+    uint64_t values[2];
+    struct machine_arguments with = { .range = 1, .steps = 9, .bytes = bytes, .length = 8, .values = values, .room = 2 };
+
+    mark(&with);
+#define NO_AGENT(name, memory, arguments, right, answers) wants(bpfagent_##name arguments, BPFAGENT_NOAGENT, #name);
+    MACHINE_CALLS(NO_AGENT)
+    must(is_marked(&with), 1, "nothing was written");
 }
 
 static void no_agent(bpfagent *a)
 {
     no_agent_of_objects(a);
+    no_agent_of_code(a);
     no_agent_of_machines(a);
     bpfagent_delete(a);
 }
@@ -351,29 +372,37 @@ static void code(bpfagent *a, size_t *machine)
 }
 
 /* A machine that there isn't. */
-static void no_machine(bpfagent *a, size_t m)
+static void no_machine(bpfagent *agent, size_t machine)
 {
-    bpfagent_end end = { 77, 77, 77 };
-    bpfagent_registers registers = { { 77 }, 77, 77, 77, 77 };
-    uint64_t values[1] = { 77 };
-    uint8_t bytes[8] = { 77 };
-    size_t count = 77;
+    uint8_t bytes[8];
+    uint64_t values[1];
+    struct machine_arguments with = { .range = 1, .steps = 1, .bytes = bytes, .length = 8, .values = values, .room = 1 };
 
-    wants(bpfagent_step(a, m, &end), BPFAGENT_NONE, "step");
-    wants(bpfagent_one(a, m, &end), BPFAGENT_NONE, "one");
-    wants(bpfagent_run(a, m, 1, &end), BPFAGENT_NONE, "run");
-    wants(bpfagent_regs(a, m, &registers), BPFAGENT_NONE, "regs");
-    wants(bpfagent_out(a, m, values, 1, &count), BPFAGENT_NONE, "out");
-    wants(bpfagent_stack(a, m, 0, bytes, 8), BPFAGENT_NONE, "stack");
-    wants(bpfagent_stack(a, m, 0, bytes, 0), BPFAGENT_NONE, "no bytes of a stack");
-    wants(bpfagent_stack(a, m, 4096, bytes, 8), BPFAGENT_NONE, "stack past the end");
-    wants(bpfagent_line(a, m, 0, bytes, 8, &count), BPFAGENT_NONE, "line");
-    wants(bpfagent_break(a, m, 0), BPFAGENT_NONE, "break");
-    wants(bpfagent_unbreak(a, m, 0), BPFAGENT_NONE, "unbreak");
-    wants(bpfagent_watch(a, m, 0, 1), BPFAGENT_NONE, "watch");
-    wants(bpfagent_unwatch(a, m, 0, 1), BPFAGENT_NONE, "unwatch");
-    wants(bpfagent_resume(a, m), BPFAGENT_NONE, "resume");
-    must(end.ran == 77 && registers.slot == 77 && values[0] == 77 && bytes[0] == 77 && count == 77, 1, "nothing was written");
+    mark(&with);
+#define NO_MACHINE(name, memory, arguments, right, answers) wants(bpfagent_##name arguments, BPFAGENT_NONE, #name);
+    MACHINE_CALLS(NO_MACHINE)
+    wants(bpfagent_stack(agent, machine, 0, bytes, 0), BPFAGENT_NONE, "no bytes of a stack");
+    wants(bpfagent_stack(agent, machine, 4096, bytes, 8), BPFAGENT_NONE, "stack past the end");
+    must(is_marked(&with), 1, "nothing was written");
+}
+
+/* Every call on a machine that was just shipped, in the order of the table. */
+static void right(void)
+{
+    bpfagent a = BPFAGENT_INIT, *agent = &a;
+    uint32_t object = 0;
+    size_t machine = 0;
+    bpfagent_refusal refusal;
+    uint8_t bytes[256];
+    uint64_t values[1];
+    struct machine_arguments with = { .range = 8, .steps = 100, .bytes = bytes, .length = 256, .values = values, .room = 1 };
+
+    must(bpfagent_new(agent, 1000), BPFAGENT_OK, "new");
+    must(bpfagent_make(agent, 8, &object), BPFAGENT_OK, "make");
+    must(ship(agent, CODE, sizeof CODE, bpfagent_address(object, 0), &machine, &refusal), BPFAGENT_OK, "ship");
+#define RIGHT(name, memory, arguments, right, answers) must(bpfagent_##name arguments, BPFAGENT_##right, #name);
+    MACHINE_CALLS(RIGHT)
+    bpfagent_delete(agent);
 }
 
 /* What is shown of a machine at its start, and what is set on it. */
@@ -508,6 +537,7 @@ int main(void)
     in_each_place(&agent, object);
     code(&agent, &machine);
     machines(&agent, object);
+    right();
     bpfagent_delete(&agent);
     all_objects();
     keepers();

@@ -7,7 +7,6 @@ from __future__ import annotations
 
 import contextlib
 import os
-import re
 import socket
 import subprocess
 import time
@@ -37,7 +36,7 @@ from .limits import LONGEST
 from .limits import PIECE as PIECE
 from .objects import Objects
 from .printable import printable
-from .replies import RUNNING, Broken, Hit, Move, Ran, Refused, Registers, Run, Step, Waiting, step_of, words_of
+from .replies import RUNNING, Broken, Form, Hit, Move, Ran, Refused, Registers, Run, Step, Waiting
 from .starting import environment, found_program
 from .streams import Idle, Pipes, Stream, awaited, connected, connection_over, reached
 
@@ -283,31 +282,24 @@ class Agent(Objects):
         self._fault = why
         return Broken(why)
 
-    def _granted(self, line: str) -> str:
-        """The reply to a command that isn't refused."""
-        reply = self.tell(line)
-        if replies.REFUSAL.fullmatch(reply):
-            raise Refused(reply)
-        return reply
+    def _ask(self, form: Form[T], line: str, *numbers: int) -> T:
+        """The value of the reply to a line. It has to be of this form, with these numbers behind its first word."""
+        return self._read(form, line, self.tell(line), *numbers)
 
-    def _ask(self, form: re.Pattern[str], line: str, *numbers: int) -> re.Match[str]:
-        """The parts of a reply of this form, of which the first have to be these numbers."""
-        return self._parts(form, line, self.tell(line), *numbers)
-
-    def _parts(self, form: re.Pattern[str], line: str, reply: str, *numbers: int) -> re.Match[str]:
+    def _read(self, form: Form[T], line: str, reply: str, *numbers: int) -> T:
         """The same of the reply to a line that was sent."""
         if replies.REFUSAL.fullmatch(reply):
             raise Refused(reply)
-        found = form.fullmatch(reply)
-        if not found or any(int(part) != number for part, number in zip(found.groups(), numbers)):
+        value = form.read(reply, *numbers)
+        if value is None:
             raise self._broken(f"{line[:60]!r} was answered {reply[:60]!r}")
-        return found
+        return value
 
     # ---- objects
 
     def make(self, length: int) -> int:
         """Makes an object of 1 to 65,536 zero bytes, and gives its number."""
-        return int(self._ask(replies.MADE, f"make {of_length(length)}")[1])
+        return self._ask(replies.MADE, f"make {of_length(length)}")
 
     def put(self, number: int, offset: int, content: Bytes) -> None:
         """Writes 1 to 4096 bytes to an object."""
@@ -329,7 +321,7 @@ class Agent(Objects):
         for first in range(0, len(lines), PUTS):
             sent = lines[first : first + PUTS]
             for line, reply in zip(sent, self._tell_short(sent)):
-                self._parts(replies.DONE, line, reply)
+                self._read(replies.DONE, line, reply)
 
     def read(self, number: int, length: int, offset: int = 0) -> bytes:
         """Reads so many bytes, by one `get` for each 4096, which are sent without waiting for each reply: others may write in between."""
@@ -344,7 +336,7 @@ class Agent(Objects):
 
     def _content(self, line: str, reply: str, length: int) -> bytes:
         """The same of the reply to a line that was sent."""
-        content = bytes.fromhex(self._parts(replies.BYTES, line, reply)[1])
+        content = self._read(replies.BYTES, line, reply)
         if len(content) != length:
             raise self._broken(f"{line!r} was answered {len(content)} bytes")
         return content
@@ -368,10 +360,10 @@ class Agent(Objects):
         return self._move(f"returned {of_object(number)}", number, Move.HOME)
 
     def _move(self, line: str, number: int, *moves: Move) -> Move:
-        found = self._ask(replies.MOVED, line)
-        move = Move(found["move"])
-        if move not in moves or int(found["number"]) != number:
-            raise self._broken(f"{line!r} was answered {found[0]!r}")
+        reply = self.tell(line)
+        move = self._read(replies.MOVED, line, reply, number)
+        if move not in moves:
+            raise self._broken(f"{line!r} was answered {reply!r}")
         return move
 
     # ---- machines
@@ -381,32 +373,19 @@ class Agent(Objects):
 
         It may do `fuel` instructions. R1 to R5 are the arguments, and 0 where there are fewer.
         """
-        return int(self._ask(replies.SHIPPED, ship_line("ship", code, of_start(fuel, arguments)))[1])
+        return self._ask(replies.SHIPPED, ship_line("ship", code, of_start(fuel, arguments)))
 
     def ship2(self, code: Bytes, fuel: int, grants: Mapping[int, str], *arguments: int) -> int:
         """Makes a machine that reaches these objects alone: of each number `r` or `w`, for reading or for writing too."""
-        return int(self._ask(replies.SHIPPED, ship_line("ship2", code, of_start(fuel, arguments), of_grants(grants)))[1])
+        return self._ask(replies.SHIPPED, ship_line("ship2", code, of_start(fuel, arguments), of_grants(grants)))
 
     def step(self, machine: int) -> Step:
         """Does one instruction of a machine."""
-        return self._step("step", machine)
+        return self._ask(replies.STEPPED, f"step {of_machine(machine)}", machine)
 
     def one(self, machine: int) -> Step:
         """Does one instruction, also where the machine is paused, and pauses it after."""
-        return self._step("one", machine)
-
-    def _step(self, command: str, machine: int) -> Step:
-        line = f"{command} {of_machine(machine)}"
-        return self._step_of(line, machine, self._granted(line))
-
-    def _step_of(self, line: str, machine: int, reply: str) -> Step:
-        """The value of a reply to a step of this machine."""
-        if replies.REFUSAL.fullmatch(reply):
-            raise Refused(reply)
-        step = step_of(reply)
-        if step is None or step.machine != machine:
-            raise self._broken(f"{line!r} was answered {reply[:60]!r}")
-        return step
+        return self._ask(replies.STEPPED, f"one {of_machine(machine)}", machine)
 
     def _advance(self, machine: int, count: int) -> tuple[int, Step]:
         """Steps a machine so many times: how many steps were answered `ran`, and the first other one, or the last."""
@@ -414,8 +393,8 @@ class Agent(Objects):
         answers = self.tell_all([line] * count)
         for done, reply in enumerate(answers):
             if not reply.startswith(ran):
-                return done, self._step_of(line, machine, reply)
-        return count, self._step_of(line, machine, answers[-1])
+                return done, self._read(replies.STEPPED, line, reply, machine)
+        return count, self._read(replies.STEPPED, line, answers[-1], machine)
 
     def run_until(self, machine: int, slot: Optional[int] = None, limit: Optional[int] = None, wait: Optional[Callable[[int], None]] = None) -> Run:
         """Steps a machine until it stops, is paused or writes to a watched range.
@@ -449,7 +428,7 @@ class Agent(Objects):
 
     def out(self, machine: int) -> tuple[int, ...]:
         """The values that a machine has emitted."""
-        return words_of(self._ask(replies.EMITTED, f"out {of_machine(machine)}", machine)[2])
+        return self._ask(replies.EMITTED, f"out {of_machine(machine)}", machine)
 
     def stack(self, machine: int, offset: int, length: int) -> bytes:
         """Reads 1 to 4096 bytes of a machine's stack."""
@@ -458,12 +437,11 @@ class Agent(Objects):
 
     def line(self, machine: int, slot: int) -> str:
         """The instruction that begins at a slot, as assembly."""
-        return self._ask(replies.SHOWN, f"line {of_machine(machine)} {of_slot(slot)}", machine, slot)[3]
+        return self._ask(replies.SHOWN, f"line {of_machine(machine)} {of_slot(slot)}", machine, slot)
 
     def regs(self, machine: int) -> Registers:
         """The machine's slot, fuel, state and registers."""
-        found = self._ask(replies.REGISTERS, f"regs {of_machine(machine)}", machine)
-        return Registers(machine, int(found[2]), int(found[3]), found[4], words_of(found[5]))
+        return self._ask(replies.REGISTERS, f"regs {of_machine(machine)}", machine)
 
     # ---- debugging
 

@@ -1,17 +1,17 @@
 """An `Engine` that also takes lines of docs/PROTOCOL.md, as a conversation does: for the debugger."""
 from __future__ import annotations
 
-from typing import Callable, Optional, Sequence
+from typing import Mapping, Optional, Sequence, Union
 
-from .agent import ARGUMENTS, PIECE
 from .engine import Engine
-from .limits import LINE, WORD
-from .protocol import BYTES, GRANT, NUMBER
-from .replies import Move, Refused, Step, Stopped, Waiting
+from .protocol import CONTENT, GRANTED, Command, commands, why_bad
+from .replies import Refused, reply_of
 from .streams import Idle
 
-# The words of `ship` behind the command: fuel, arguments and code.
-SHIP = 1 + ARGUMENTS + 1
+# A word of a line, or its grants, as a method takes it.
+Argument = Union[int, bytes, dict[int, str]]
+# Where a command has these, its method takes them first, in this order.
+FIRST = ("CODE", "FUEL", GRANTED)
 
 
 class LineEngine(Engine):
@@ -30,169 +30,33 @@ class LineEngine(Engine):
         """Does a line, and gives its reply without the line end. This also works for a line that is no command."""
         if not line.isascii() or "\n" in line:
             raise ValueError("a line is ASCII, without a line end within")
-        command, *words = line.split(" ")
-        form = FORMS.get(command)
-        if form is None or len(line) > LINE:
+        if why_bad(line):
             return "bad"
+        name, *words = line.split(" ")
+        command = commands()[name]
+        given = arguments_of(command, words)
         try:
-            return form(self, words)
+            value = getattr(self, command.method)(*ordered(given))
         except Refused as refusal:
             return str(refusal)
         except ValueError:
+            # Code that is too long for a line with its numbers in decimal, by which a method bounds it.
             return "bad"
+        return reply_of(command.replies[0], given, value)
 
     def tell_all(self, lines: Sequence[str]) -> list[str]:
         """Does lines, and gives their replies in order."""
         return [self.tell(line) for line in lines]
 
 
-Form = Callable[[LineEngine, Sequence[str]], str]
+def arguments_of(command: Command, words: Sequence[str]) -> dict[str, Argument]:
+    """The words behind a command's name as values, by the synopsis' words for them."""
+    found: dict[str, Argument] = {place: bytes.fromhex(word) if place in CONTENT else int(word, 0) for place, word in zip(command.words, words)}
+    if command.takes_grants:
+        found[GRANTED] = {int(word[1:], 0): word[0] for word in words[len(command.words) :]}
+    return found
 
 
-def number_of(word: str) -> int:
-    """The number that a word is, or `bad`."""
-    if not NUMBER.fullmatch(word):
-        raise Refused("bad")
-    number = int(word, 16 if word.startswith("0x") else 10)
-    if number > WORD:
-        raise Refused("bad")
-    return number
-
-
-def numbers_of(words: Sequence[str], count: int) -> list[int]:
-    """So many words as numbers, or `bad`."""
-    if len(words) != count:
-        raise Refused("bad")
-    return [number_of(word) for word in words]
-
-
-def bytes_of(word: str) -> bytes:
-    """The bytes that a word is, or `bad`."""
-    if not BYTES.fullmatch(word):
-        raise Refused("bad")
-    return bytes.fromhex(word)
-
-
-def piece(length: int) -> int:
-    """The length of bytes that stand on a line, or `bad`."""
-    if length > PIECE:
-        raise Refused("bad")
-    return length
-
-
-def made(engine: LineEngine, words: Sequence[str]) -> str:
-    return f"made {engine.make(*numbers_of(words, 1))}"
-
-
-def put(engine: LineEngine, words: Sequence[str]) -> str:
-    number, offset = numbers_of(words[:2], 2)
-    content = bytes_of(words[2]) if len(words) == 3 else b""
-    piece(len(content))
-    engine.put(number, offset, content)
-    return "ok"
-
-
-def got(engine: LineEngine, words: Sequence[str]) -> str:
-    number, offset, length = numbers_of(words, 3)
-    return f"bytes {engine.get(number, offset, piece(length)).hex()}"
-
-
-def freed(engine: LineEngine, words: Sequence[str]) -> str:
-    (number,) = numbers_of(words, 1)
-    engine.free(number)
-    return f"freed {number}"
-
-
-def moved(call: Callable[[LineEngine, int], Move]) -> Form:
-    def form(engine: LineEngine, words: Sequence[str]) -> str:
-        (number,) = numbers_of(words, 1)
-        return f"{call(engine, number).value} {number}"
-
-    return form
-
-
-def shipped(engine: LineEngine, words: Sequence[str]) -> str:
-    if len(words) != SHIP:
-        raise Refused("bad")
-    return f"shipped {engine.ship(bytes_of(words[-1]), *numbers_of(words[:-1], SHIP - 1))}"
-
-
-def shipped_granted(engine: LineEngine, words: Sequence[str]) -> str:
-    if len(words) < SHIP or not all(GRANT.fullmatch(word) for word in words[SHIP:]):
-        raise Refused("bad")
-    fuel, *arguments = numbers_of(words[: SHIP - 1], SHIP - 1)
-    numbers = [number_of(word[1:]) for word in words[SHIP:]]
-    if numbers != sorted(set(numbers)):
-        raise Refused("bad")
-    grants = {number: word[0] for number, word in zip(numbers, words[SHIP:])}
-    return f"shipped {engine.ship2(bytes_of(words[SHIP - 1]), fuel, grants, *arguments)}"
-
-
-def step_text(step: Step) -> str:
-    """The reply that a step is."""
-    if isinstance(step, Stopped):
-        return f"stopped {step.machine} exit {step.value:016x}" if step.value is not None else f"stopped {step.machine} {step.why}"
-    return f"{type(step).__name__.lower()} {step.machine} {step.object if isinstance(step, Waiting) else step.slot}"
-
-
-def stepped(call: Callable[[LineEngine, int], Step]) -> Form:
-    return lambda engine, words: step_text(call(engine, *numbers_of(words, 1)))
-
-
-def done(call: Callable[..., None], count: int) -> Form:
-    def form(engine: LineEngine, words: Sequence[str]) -> str:
-        call(engine, *numbers_of(words, count))
-        return "ok"
-
-    return form
-
-
-def values_text(values: Sequence[int]) -> str:
-    return "".join(f" {value:016x}" for value in values)
-
-
-def emitted(engine: LineEngine, words: Sequence[str]) -> str:
-    (machine,) = numbers_of(words, 1)
-    return f"out {machine}{values_text(engine.out(machine))}"
-
-
-def stack(engine: LineEngine, words: Sequence[str]) -> str:
-    machine, offset, length = numbers_of(words, 3)
-    return f"bytes {engine.stack(machine, offset, length).hex()}"
-
-
-def line(engine: LineEngine, words: Sequence[str]) -> str:
-    machine, slot = numbers_of(words, 2)
-    return f"line {machine} {slot} {engine.line(machine, slot)}"
-
-
-def registers(engine: LineEngine, words: Sequence[str]) -> str:
-    (machine,) = numbers_of(words, 1)
-    found = engine.regs(machine)
-    return f"regs {machine} {found.slot} {found.fuel} {found.state}{values_text(found.values)}"
-
-
-# The reply to each command, of an engine and of the words behind the command.
-FORMS: dict[str, Form] = {
-    "make": made,
-    "put": put,
-    "get": got,
-    "free": freed,
-    "leave": moved(LineEngine.leave),
-    "left": moved(LineEngine.left),
-    "return": moved(LineEngine.return_),
-    "returned": moved(LineEngine.returned),
-    "ship": shipped,
-    "ship2": shipped_granted,
-    "step": stepped(LineEngine.step),
-    "one": stepped(LineEngine.one),
-    "resume": done(LineEngine.resume, 1),
-    "break": done(LineEngine.break_, 2),
-    "unbreak": done(LineEngine.unbreak, 2),
-    "watch": done(LineEngine.watch, 3),
-    "unwatch": done(LineEngine.unwatch, 3),
-    "out": emitted,
-    "stack": stack,
-    "line": line,
-    "regs": registers,
-}
+def ordered(given: Mapping[str, Argument]) -> list[Argument]:
+    """The values in the order in which a method takes them."""
+    return [given[place] for place in sorted(given, key=lambda place: FIRST.index(place) if place in FIRST else len(FIRST))]

@@ -39,9 +39,9 @@ def prepared(agent: Talker, path: str) -> dict[int, int]:
         if REFUSAL.fullmatch(reply):
             why = why_bad(line) if reply == "bad" else ""
             raise Unprepared(f"{path}:{number}: {quoted(line)} is answered {reply}{why and f': {why}'}")
-        made, freed, length = MADE.fullmatch(reply), FREED.fullmatch(reply), LENGTH.fullmatch(line)
-        if made and length:
-            lengths[int(made[1])] = int(length[1], 0)
-        elif freed:
-            lengths.pop(int(freed[1]), None)
+        made, freed, length = MADE.read(reply), FREED.read(reply), LENGTH.fullmatch(line)
+        if made is not None and length:
+            lengths[made] = int(length[1], 0)
+        elif freed is not None:
+            lengths.pop(freed, None)
     return lengths

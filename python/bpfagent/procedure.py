@@ -158,7 +158,8 @@ class Turn:
 
     def _stop_of(self, reply: str) -> str:
         """The stop that the registers show; empty if the machine goes on."""
-        found = REGISTERS.fullmatch(reply)
+        # A request asks again and again, so the registers' values aren't read.
+        found = REGISTERS.pattern.fullmatch(reply)
         if not found:
             raise Refused(reply)
         self.slot = int(found[2])

@@ -3,6 +3,7 @@ from __future__ import annotations
 
 import difflib
 import functools
+import keyword
 import pathlib
 import re
 import textwrap
@@ -48,6 +49,11 @@ class Command:
     def form(self) -> str:
         """How it is written."""
         return " ".join([self.name, *self.words, *[f"{GRANTED} .."] * self.takes_grants])
+
+    @property
+    def method(self) -> str:
+        """The method of an agent that does it. A keyword of Python can't name one."""
+        return f"{self.name}_" if keyword.iskeyword(self.name) else self.name
 
 
 @functools.lru_cache(maxsize=None)
@@ -183,8 +189,7 @@ def limits_of(name: str, word: str) -> tuple[int, int]:
 def wrong_number(wanted: str, word: str, least: int, most: int) -> str:
     """Why a word isn't a number in this range; empty if it is."""
     if NUMBER.fullmatch(word):
-        number = int(word, 16 if word.startswith("0x") else 10)
-        if least <= number <= most:
+        if least <= int(word, 0) <= most:
             return ""
     for form, why in (
         ("0[0-9]+", "a number has no leading zeros"),
@@ -220,7 +225,7 @@ def wrong_grants(words: Sequence[str]) -> str:
             return f"{GRANTED} is {quoted(word)}, and a grant is r or w and an object's number, as in r1"
         if why := wrong_number(f"the object of {quoted(word)}", word[1:], *LIMITS["n"]):
             return why
-        number = int(word[1:], 16 if word[1:].startswith("0x") else 10)
+        number = int(word[1:], 0)
         if number <= last:
             return f"the numbers of grants rise, and {number} doesn't come after {last}"
         last = number

@@ -10,7 +10,7 @@ from .agent import STACK
 from .limits import OBJECTS
 from .numerals import as_text, decimal, signed
 from .protocol import BYTES, page, why_bad
-from .replies import EMITTED, REGISTERS, SHOWN, Registers, words_of
+from .replies import EMITTED, REGISTERS, SHOWN, Registers
 from .stops import stop_kind
 
 INDENT = "  "
@@ -97,9 +97,9 @@ def on_shipped(agent: Talker, line: str, words: Sequence[str]) -> Iterator[str]:
     """The code as assembly."""
     slots = len(line.split(" ")[CODE]) // 16
     asked = agent.tell_all([f"line {words[0]} {slot}" for slot in range(min(slots, ROWS))])
-    for reply in asked:
-        if found := SHOWN.fullmatch(reply):
-            yield f"{found[2]}: {found[3]}"
+    for slot, reply in enumerate(asked):
+        if text := SHOWN.read(reply):
+            yield f"{slot}: {text}"
     if slots > ROWS:
         yield f".. of {slots} slots"
 
@@ -125,23 +125,21 @@ def on_registers(agent: Talker, line: str, words: Sequence[str]) -> Iterator[str
 
 def on_emitted(agent: Talker, line: str, words: Sequence[str]) -> Iterator[str]:
     """A row for each value."""
-    found = EMITTED.fullmatch(" ".join(["out", *words]))
-    for value in words_of(found[2]) if found else ():
+    for value in EMITTED.read(" ".join(["out", *words])) or ():
         yield f"{value:016x} {decimal(value)}"
 
 
 def registers_of(reply: str) -> Registers:
     """The registers that a reply has."""
-    found = REGISTERS.fullmatch(reply)
+    found = REGISTERS.read(reply)
     if not found:
         raise ValueError(reply)
-    return Registers(int(found[1]), int(found[2]), int(found[3]), found[4], words_of(found[5]))
+    return found
 
 
 def instruction_at(agent: Talker, machine: str, slot: int) -> str:
     """The instruction at a slot as assembly."""
-    found = SHOWN.fullmatch(agent.tell(f"line {machine} {slot}"))
-    return found[3] if found else "no instruction begins there"
+    return SHOWN.read(agent.tell(f"line {machine} {slot}")) or "no instruction begins there"
 
 
 REMARKS: dict[str, Remark] = {

@@ -1,33 +1,24 @@
-"""The replies of an agent as values, and the two ways in which a command can fail.
+"""The replies of an agent as values, how they are read and written, and the two ways in which a command can fail.
 
-docs/PROTOCOL.md has the replies as they are written.
+docs/PROTOCOL.md has the replies as they are written. A new kind of reply needs a `Form`, and a line of `reply_of` or `said` if its value has a
+new type.
 """
 from __future__ import annotations
 
 import enum
 import re
 from dataclasses import dataclass
-from typing import Callable, Optional, Union
+from typing import Callable, Generic, Mapping, Optional, TypeVar, Union
 
 from .stops import STOPS
 
+T = TypeVar("T")
 NUMBER = "(0|[1-9][0-9]{0,19})"
 WORD = "[0-9a-f]{16}"
 REFUSAL = re.compile(
     rf"bad|full|noroom|nomem|outside|none|noslot|notpaused|nowatch|worn|unserved|(?:away|busy) {NUMBER}"
     rf"|place {NUMBER} (?:here|leaving|far|returning)|kept {NUMBER} (?:scoped|fault (?:here|far))|refused {NUMBER} [A-Za-z0-9]+"
 )
-DONE = re.compile("ok")
-MADE = re.compile(f"made {NUMBER}")
-BYTES = re.compile("bytes ((?:[0-9a-f]{2})+)")
-FREED = re.compile(f"freed {NUMBER}")
-MOVED = re.compile(f"(?P<move>leaving|left|returning|home|asked) (?P<number>{NUMBER})")
-SHIPPED = re.compile(f"shipped {NUMBER}")
-STEPPED = re.compile(f"(?P<how>ran|hit|paused|waiting) (?P<machine>{NUMBER}) (?P<number>{NUMBER})")
-STOPPED = re.compile(f"stopped (?P<machine>{NUMBER}) (?:exit (?P<value>{WORD})|(?P<why>{'|'.join(STOPS)}))")
-EMITTED = re.compile(f"out {NUMBER}((?: {WORD})*)")
-SHOWN = re.compile(f"line {NUMBER} {NUMBER} (.+)")
-REGISTERS = re.compile(f"regs {NUMBER} {NUMBER} {NUMBER} ([a-z]+)((?: {WORD}){{11}})")
 
 
 # The states of a machine that goes on, and of one that is paused.
@@ -146,18 +137,88 @@ class Move(enum.Enum):
     ASKED = "asked"
 
 
+# ---- forms
+
+
+class Form(Generic[T]):
+    """A form of reply: its pattern, and the value of what matches it."""
+
+    def __init__(self, pattern: str, value_of: Callable[[re.Match[str]], T]) -> None:
+        self.pattern, self._value_of = re.compile(pattern), value_of
+
+    def read(self, reply: str, *numbers: int) -> Optional[T]:
+        """The value of a reply. None if it has another form, or doesn't have these numbers behind its first word."""
+        found = self.pattern.fullmatch(reply)
+        if not found or any(int(word) != number for word, number in zip(reply.split(" ")[1:], numbers)):
+            return None
+        return self._value_of(found)
+
+
+def number_in(found: re.Match[str]) -> int:
+    return int(found[1])
+
+
 def words_of(text: str) -> tuple[int, ...]:
     """The values of words of sixteen hex digits."""
     return tuple(int(word, 16) for word in text.split())
 
 
-def step_of(reply: str) -> Optional[Step]:
-    """The value of a reply to a step, or None if it is no such reply."""
-    found = STEPPED.fullmatch(reply)
-    if found:
+def step_in(found: re.Match[str]) -> Step:
+    if found["how"]:
         return STEPS[found["how"]](int(found["machine"]), int(found["number"]))
-    found = STOPPED.fullmatch(reply)
-    if found:
-        value = found["value"]
-        return Stopped(int(found["machine"]), found["why"] or "exit", int(value, 16) if value else None)
-    return None
+    value = found["value"]
+    return Stopped(int(found["stopped"]), found["why"] or "exit", int(value, 16) if value else None)
+
+
+DONE = Form("ok", lambda found: True)
+MADE = Form(f"made {NUMBER}", number_in)
+FREED = Form(f"freed {NUMBER}", number_in)
+SHIPPED = Form(f"shipped {NUMBER}", number_in)
+BYTES = Form("bytes ((?:[0-9a-f]{2})+)", lambda found: bytes.fromhex(found[1]))
+MOVED = Form(f"({'|'.join(move.value for move in Move)}) {NUMBER}", lambda found: Move(found[1]))
+STEPPED = Form(
+    f"(?P<how>{'|'.join(STEPS)}) (?P<machine>{NUMBER}) (?P<number>{NUMBER})"
+    f"|stopped (?P<stopped>{NUMBER}) (?:exit (?P<value>{WORD})|(?P<why>{'|'.join(STOPS)}))",
+    step_in,
+)
+EMITTED = Form(f"out {NUMBER}((?: {WORD})*)", lambda found: words_of(found[2]))
+SHOWN = Form(f"line {NUMBER} {NUMBER} (.+)", lambda found: found[3])
+REGISTERS = Form(
+    f"regs {NUMBER} {NUMBER} {NUMBER} ([a-z]+)((?: {WORD}){{11}})",
+    lambda found: Registers(int(found[1]), int(found[2]), int(found[3]), found[4], words_of(found[5])),
+)
+step_of = STEPPED.read
+
+
+# ---- writing
+
+# What the methods for commands give.
+Value = Union[None, int, str, bytes, tuple[int, ...], Move, Registers, Step]
+
+
+def reply_of(form: str, given: Mapping[str, object], value: Value) -> str:
+    """The reply that a value is. `form` is that of the synopsis, as `line m SLOT TEXT`. It says how a reply begins whose value doesn't name its
+    machine, and which of the command's words, which are `given`, come next."""
+    if isinstance(value, (AtSlot, Waiting, Stopped)):
+        return step_text(value)
+    if isinstance(value, Registers):
+        return " ".join([f"regs {value.machine} {value.slot} {value.fuel} {value.state}", *said(value.values)])
+    first, *places = form.split(" ")
+    own = [str(given[place]) for place in places if place in given]
+    return " ".join([value.value if isinstance(value, Move) else first, *own, *said(value)])
+
+
+def said(value: Union[None, int, str, bytes, tuple[int, ...], Move]) -> list[str]:
+    """The last words of the reply that a value is."""
+    if value is None or isinstance(value, Move):
+        return []
+    if isinstance(value, tuple):
+        return [f"{word:016x}" for word in value]
+    return [value.hex() if isinstance(value, bytes) else str(value)]
+
+
+def step_text(step: Step) -> str:
+    """The reply that a step is."""
+    if isinstance(step, Stopped):
+        return f"stopped {step.machine} {step.why}" if step.value is None else f"stopped {step.machine} exit {step.value:016x}"
+    return f"{type(step).__name__.lower()} {step.machine} {step.object if isinstance(step, Waiting) else step.slot}"

@@ -5,7 +5,6 @@ import contextlib
 import fcntl
 import importlib.util
 import io
-import keyword
 import os
 import pathlib
 import pty
@@ -69,7 +68,7 @@ uint64_t program(volatile uint64_t *count)
 
 def methods_taking(*words: str) -> list[str]:
     """The methods of an agent for the commands that take these words of the synopsis."""
-    return [f"{name}_" if keyword.iskeyword(name) else name for name, command in commands().items() if command.words == words]
+    return [command.method for command in commands().values() if command.words == words]
 
 
 def with_signals(case: unittest.TestCase) -> None:

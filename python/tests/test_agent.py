@@ -6,7 +6,6 @@ held with a started `run`, and over TCP with a stand-in that answers stored line
 from __future__ import annotations
 
 import doctest
-import keyword
 import os
 import pathlib
 import re
@@ -18,7 +17,7 @@ import threading
 import time
 import unittest
 import unittest.mock
-from typing import Callable, Optional, Sequence
+from typing import Any, Callable, Optional, Sequence
 
 import bpfagent
 import stand_in
@@ -31,8 +30,6 @@ from lib.scripts import Talk, conversations
 PAGE = ROOT / "python/README.md"
 SCRIPTS = [ROOT / "crates/script_runner/data/protocol.script", *sorted(ROOT.glob("examples/*.script")), *sorted(ROOT.glob("examples/c/*.script"))]
 EXIT = bytes.fromhex("9500000000000000")
-# Which words of a command are bytes, or grants, and no numbers.
-NO_NUMBERS = {"put": 3, "ship": 7, "ship2": 7}
 
 
 # ---- lines to calls, and values to replies
@@ -41,7 +38,7 @@ NO_NUMBERS = {"put": 3, "ship": 7, "ship2": 7}
 def parts(command: str) -> tuple[str, list[int], bytes, list[str]]:
     """The word of a command, its numbers, its bytes, and the words after these."""
     word, *rest = command.split(" ")
-    at = NO_NUMBERS.get(word, len(rest) + 1) - 1
+    at = sum(place not in protocol.CONTENT for place in protocol.commands()[word].words)
     return word, [int(number, 0) for number in rest[:at]], bytes.fromhex("".join(rest[at : at + 1])), rest[at + 1 :]
 
 
@@ -70,41 +67,40 @@ def regs_text(shown: Registers) -> str:
     return f"regs {shown.machine} {shown.slot} {shown.fuel} {shown.state}{hexes(shown.values)}"
 
 
-# How a reply reads whose value doesn't say it whole.
-CALLS: dict[str, Callable[..., str]] = {
-    "make": lambda agent, length: f"made {agent.make(length)}",
-    "get": lambda agent, *numbers: f"bytes {agent.get(*numbers).hex()}",
-    "free": lambda agent, number: f"freed {number}" if agent.free(number) is None else "",
-    "out": lambda agent, machine: f"out {machine}{hexes(agent.out(machine))}",
-    "stack": lambda agent, *numbers: f"bytes {agent.stack(*numbers).hex()}",
-    "line": lambda agent, *numbers: f"line {numbers[0]} {numbers[1]} {agent.line(*numbers)}",
+# How a value ends a reply, for the types that a method may give.
+SAID: dict[type, Callable[[Any], str]] = {
+    type(None): lambda nothing: "",
+    int: lambda number: f" {number}",
+    str: lambda text: f" {text}",
+    bytes: lambda content: f" {content.hex()}",
+    tuple: hexes,
 }
 
 
-def value_text(value: Step | Registers | Move | None, number: int) -> str:
-    """The reply of this value to a command on the object or the machine of this number."""
-    if isinstance(value, Move):
-        return f"{value.value} {number}"
+def value_text(value: object, command: str) -> str:
+    """The reply of this value. The synopsis says how it begins where the value doesn't, and which of the command's numbers it repeats."""
     if isinstance(value, Registers):
         return regs_text(value)
-    return "ok" if value is None else step_text(value)
+    if isinstance(value, (Ran, Hit, Paused, Waiting, Stopped)):
+        return step_text(value)
+    word, numbers, _, _ = parts(command)
+    known = protocol.commands()[word]
+    first, *places = known.replies[0].split(" ")
+    given = dict(zip(known.words, numbers))
+    own = "".join(f" {given[place]}" for place in places if place in given)
+    return f"{value.value}{own}" if isinstance(value, Move) else f"{first}{own}{SAID[type(value)](value)}"
 
 
 def called(agent: Agent | Engine, command: str) -> str:
     """The reply to a command, which is given by the client's method."""
     word, numbers, content, rest = parts(command)
+    known = protocol.commands()[word]
+    method = getattr(agent, known.method)
     try:
-        if word == "put":
-            agent.put(numbers[0], numbers[1], content)
-            return "ok"
-        if word == "ship":
-            return f"shipped {agent.ship(content, *numbers)}"
-        if word == "ship2":
-            return f"shipped {agent.ship2(content, numbers[0], {int(grant[1:]): grant[0] for grant in rest}, *numbers[1:])}"
-        if word in CALLS:
-            return CALLS[word](agent, *numbers)
-        method = getattr(agent, f"{word}_" if keyword.iskeyword(word) else word)
-        return value_text(method(*numbers), numbers[0])
+        if "CODE" in known.words:
+            grants = [{int(grant[1:]): grant[0] for grant in rest}] * known.takes_grants
+            return value_text(method(content, numbers[0], *grants, *numbers[1:]), command)
+        return value_text(method(*numbers, *[content] * bool(content)), command)
     except Refused as refusal:
         return str(refusal)
 

@@ -24,7 +24,7 @@ import tempfile
 import threading
 import time
 import unittest
-from typing import Callable, Sequence
+from typing import Callable, Sequence, cast
 from unittest import mock
 
 import bpfagent
@@ -173,6 +173,19 @@ class Answers(unittest.TestCase):
     def test_page(self) -> None:
         """The example of the module."""
         self.assertEqual(doctest.testmod(engine, extraglobs={"address": address}), doctest.TestResults(0, 2))
+
+
+@needs_program
+class Lines(unittest.TestCase):
+    """What a `LineEngine` makes of lines and values, with the methods of a started agent. It needs no library."""
+
+    def test_conversations(self) -> None:
+        """The stored conversations."""
+        for path in SCRIPTS:
+            for arguments, talk in conversations(path.read_text()):
+                with Agent.run(PROGRAM, *arguments, timeout=SECONDS) as agent:
+                    for line, reply in talk:
+                        self.assertEqual(LineEngine.tell(cast(LineEngine, agent), line), reply, line[:80])
 
 
 @needs_library

@@ -12,6 +12,8 @@ from bpfagent.library import library_if_there
 from bpfagent.protocol import commands, help_of, why_bad
 from support import PROGRAM, SECONDS, methods_taking
 
+from product import protocol as listed
+
 EXIT = bytes.fromhex("9500000000000000")
 LENGTH, NUMBER, MACHINE = "a length is from 1 to 65536, and not", "an object's number is from 1 to 1024, and not", "a machine's number is from 1 to 48, and not"
 # Calls of an agent in another process or in this one: what they raise, and its words.
@@ -64,12 +66,11 @@ OF_LINES: list[tuple[Callable[[Any], object], str]] = [
     (lambda agent: agent.put(1, 0, bytes(4097)), "one put takes 1 to 4096 bytes, and not 4097"),
     (lambda agent: agent.get(1, 0, 4097), "a length is from 1 to 4096, and not 4097"),
 ]
-# A line of each command, and words that don't fit somewhere. The commands are written out, since `why_bad` reads them from the page itself.
-LINES = {
-    **dict.fromkeys(("make", "free", "leave", "left", "return", "returned", "step", "one", "regs", "out", "resume"), ["1"]),
-    **dict.fromkeys(("break", "unbreak", "line"), ["1", "0"]), **dict.fromkeys(("watch", "unwatch"), ["1", "0x100000000", "8"]),
-    "put": ["1", "0", "00"], "get": ["1", "0", "1"], "stack": ["1", "0", "1"], "ship": ["0"] * 6 + ["95"], "ship2": ["0"] * 6 + ["95", "r1", "w2"],
-}
+# What fits for each word of the synopsis, and words that don't fit somewhere.
+FITTING = {
+    **dict.fromkeys(("n", "m", "LENGTH"), ["1"]), **dict.fromkeys(("OFFSET", "SLOT", *listed.START), ["0"]),
+    "ADDRESS": ["0x100000000"], "BYTES": ["00"], "CODE": ["95"], "G ..": ["r1", "w2"],
+}  # fmt: skip
 ODD = [
     "", "0", "1", "48", "49", "1024", "1025", "4095", "4096", "4097", "65535", "65536", "65537", str(2**64 - 1), str(2**64), "9" * 30, "00",
     "01", "+1", "-1", "x", "ff", "0x", "0X1", "0x0A", "0x" + "f" * 16, "0x" + "0" * 17, "1\r", "1\t", "é", "1.0", "abc", "zz", "AAff", "0x00",
@@ -106,9 +107,14 @@ WHY = {
 }
 
 
+def fitting() -> dict[str, list[str]]:
+    """Words of a line of each command that the program lists, since `why_bad` reads the commands from the page itself."""
+    return {command.name: [fits for word in command.words for fits in FITTING[word]] for command in listed.commands(PROGRAM)}
+
+
 def wrong_lines() -> Iterator[str]:
     """Lines of each command with each of its words replaced, left out or doubled, and with other spaces."""
-    for name, words in LINES.items():
+    for name, words in fitting().items():
         for at, odd in itertools.product(range(len(words)), ODD):
             yield " ".join([name, *words[:at], odd, *words[at + 1 :]])
         for count in range(len(words) + 1):
@@ -154,9 +160,10 @@ class Calls(unittest.TestCase):
 class Lines(unittest.TestCase):
     """A line that is `bad`."""
 
+    @unittest.skipUnless(PROGRAM, "needs BPFAGENT")
     def test_lines(self) -> None:
         """There is a line of each command."""
-        self.assertEqual({*LINES}, {*commands()})
+        self.assertEqual({*fitting()}, {*commands()})
 
     def test_why(self) -> None:
         """Which word is wrong, and what would fit."""

@@ -1,6 +1,6 @@
 /* Calls of the library for C, as bytes say, for libFuzzer. Each answer is one that the table in bpfagent.h has for its call, nothing beside the
    memory that a call may write is written, and bytes that were put are those that are got until a program may have run. */
-#include "bpfagent.h"
+#include "../../examples/embed/machine_calls.h"
 #include <stdbool.h>
 #include <stdint.h>
 #include <stdio.h>
@@ -12,7 +12,6 @@
 /* Beside each buffer stand as many bytes of this value. */
 #define GUARD 64
 #define MARK 0xa5
-#define SET(reply) (UINT64_C(1) << BPFAGENT_##reply)
 
 static const uint8_t *input;
 static size_t left;
@@ -139,48 +138,46 @@ static void on_objects(bpfagent *agent, uint8_t kind)
     }
 }
 
-static void on_machines(bpfagent *agent, uint8_t kind)
+static void on_code(bpfagent *agent, bool is_granted)
 {
-    static const uint64_t ended = SET(RAN) | SET(HIT) | SET(WAITING) | SET(PAUSED) | SET(STOPPED) | SET(NONE);
-    size_t machine = (size_t)number(), length = (size_t)number() % 5000, count = 0;
-    uint32_t slot = (uint32_t)number();
+    size_t machine = 0, length;
+    uint32_t object = (uint32_t)number();
     uint64_t address = number() << 32 | number();
-    bpfagent_end end;
-    bpfagent_registers registers;
     bpfagent_refusal refusal;
-    uint64_t values[64];
-    switch (kind) {
-    case 0:
-    case 1: {
-        const uint8_t *code = piece(&length);
-        bpfagent_grant granted[2] = {{slot % 20, 1}, {slot % 7, 0}};
-        uint32_t reply = kind ? bpfagent_ship(agent, code, length, number(), address, 1, 2, 3, 4, &machine, &refusal)
-                              : bpfagent_ship_granted(agent, code, length, number(), address, 1, 2, 3, 4, granted, 2, &machine, &refusal);
-        want("ship", reply, SET(OK) | SET(FULL) | SET(REFUSED) | SET(NOMEM) | (kind ? 0 : SET(BAD)));
-        if (reply != BPFAGENT_FULL && reply != BPFAGENT_BAD && reply != BPFAGENT_NOMEM
-            && (bpfagent_check(code, length, &refusal) == BPFAGENT_OK) != (reply == BPFAGENT_OK))
-            fail("check isn't what ship is", reply);
+    const uint8_t *code = piece(&length);
+    bpfagent_grant granted[2] = {{object % 20, 1}, {object % 7, 0}};
+    uint32_t reply = is_granted ? bpfagent_ship_granted(agent, code, length, number(), address, 1, 2, 3, 4, granted, 2, &machine, &refusal)
+                                : bpfagent_ship(agent, code, length, number(), address, 1, 2, 3, 4, &machine, &refusal);
+    want("ship", reply, SET(OK) | SET(FULL) | SET(REFUSED) | SET(NOMEM) | (is_granted ? SET(BAD) : 0));
+    if (reply != BPFAGENT_FULL && reply != BPFAGENT_BAD && reply != BPFAGENT_NOMEM
+        && (bpfagent_check(code, length, &refusal) == BPFAGENT_OK) != (reply == BPFAGENT_OK))
+        fail("check isn't what ship is", reply);
+}
+
+#define NUMBERED(name, memory, arguments, right, answers) ON_##name,
+enum { MACHINE_CALLS(NUMBERED) ON_MACHINES };
+
+static void on_machines(bpfagent *agent, unsigned call)
+{
+    size_t machine = (size_t)number(), length = (size_t)number() % 5000;
+    uint32_t slot = (uint32_t)number(), reply = BPFAGENT_NONE;
+    uint64_t address = number() << 32 | number(), steps = number() % 100000, values[64];
+    struct machine_arguments with = {
+        .slot = slot, .offset = slot, .address = address, .range = slot, .steps = steps, .bytes = room(length), .length = length, .values = values, .room = 64,
+    };
+    const char *name = "";
+    switch (call) {
+#define TRIED(called, memory, arguments, right, answers) \
+    case ON_##called: \
+        name = #called; \
+        reply = want(#called, bpfagent_##called arguments, answers); \
         break;
+        MACHINE_CALLS(TRIED)
     }
-    case 2: forget_all(); want("step", bpfagent_step(agent, machine, &end), ended); break;
-    case 3: forget_all(); want("one", bpfagent_one(agent, machine, &end), ended & ~SET(PAUSED)); break;
-    case 4: forget_all(); want("run", bpfagent_run(agent, machine, number() % 100000, &end), ended); break;
-    case 5: want("regs", bpfagent_regs(agent, machine, &registers), SET(OK) | SET(NONE)); break;
-    case 6: want("out", bpfagent_out(agent, machine, values, 64, &count), SET(OK) | SET(NONE)); break;
-    case 7:
-        want("stack", bpfagent_stack(agent, machine, slot, room(length), length), SET(OK) | SET(NONE) | SET(OUTSIDE));
-        want_guards("stack", length);
-        break;
-    case 8:
-        want("line", bpfagent_line(agent, machine, slot, room(length), length, &count), SET(OK) | SET(NONE) | SET(NOSLOT) | SET(NOMEM));
-        want_guards("line", length);
-        break;
-    case 9: want("break", bpfagent_break(agent, machine, slot), SET(OK) | SET(NONE) | SET(NOSLOT) | SET(FULL)); break;
-    case 10: want("unbreak", bpfagent_unbreak(agent, machine, slot), SET(OK) | SET(NONE) | SET(NOSLOT)); break;
-    case 11: want("watch", bpfagent_watch(agent, machine, address, slot), SET(OK) | SET(NONE) | SET(OUTSIDE) | SET(FULL)); break;
-    case 12: want("unwatch", bpfagent_unwatch(agent, machine, address, slot), SET(OK) | SET(NONE) | SET(NOWATCH)); break;
-    default: want("resume", bpfagent_resume(agent, machine), SET(OK) | SET(NONE) | SET(NOTPAUSED));
-    }
+    want_guards(name, length);
+    /* Then a program may have run. */
+    if (reply >= BPFAGENT_RAN && reply <= BPFAGENT_STOPPED)
+        forget_all();
 }
 
 static void on_texts(uint8_t kind)
@@ -213,8 +210,10 @@ int LLVMFuzzerTestOneInput(const uint8_t *bytes, size_t size)
         uint8_t kind = (uint8_t)take(1);
         if (kind < 100)
             on_objects(&agent, kind % 12);
+        else if (kind < 120)
+            on_code(&agent, kind % 2 == 0);
         else if (kind < 220)
-            on_machines(&agent, kind % 14);
+            on_machines(&agent, kind % ON_MACHINES);
         else
             on_texts(kind % 3);
     }

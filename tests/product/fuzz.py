@@ -37,7 +37,7 @@ from lib import package
 from lib.checks import Failed, want
 from lib.programs import Client, Service, ended, patience
 from lib.sources import ROOT
-from reference_agent import COMMANDS, LENGTH, MACHINE, OBJECT, SLOT, WORD, Agent
+from reference_agent import COMMANDS, Agent
 
 KEPT = ROOT / "tests/fuzzed"
 # The parts of tests/hostile, with the package of Python that each needs; the library, and what it is called by.
@@ -53,9 +53,9 @@ EDGES = (0, 1, 2, 7, 8, 63, 64, 255, 256, 4095, 4096, 65535, 65536, (1 << 31) - 
 LENGTHS = (1, 2, 3, 8, 9, 64, 4096, 65536)
 BUDGETS = (0, 8, 64, 5000, 67108864)
 EXIT = bytes.fromhex("9500000000000000")
-# The commands that take an object, a machine, a slot or a range, by the reference. Half of those on a machine are steps.
+# The commands that take an object, a machine, a slot or a range, as one of each does. Half of those on a machine are steps.
 OBJECT_WORDS, MACHINE_WORDS, SLOT_WORDS, RANGE_WORDS = (
-    [name for name, taken in COMMANDS.items() if taken == words] for words in ([OBJECT], [MACHINE], [MACHINE, SLOT], [MACHINE, WORD, LENGTH])
+    [name for name, form in COMMANDS.items() if form == COMMANDS[like]] for like in ("free", "step", "break", "watch")
 )
 MACHINE_WORDS += ["step"] * 3
 # What `serve` doesn't do as `run` does, or when somebody else has had time.

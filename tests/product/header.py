@@ -2,8 +2,9 @@
 """The header of the library for C is what the sources say: header.py
 
 It has the exports of crates/bpfagent_c: names, parameters, results, fields of structs, numbers of enums, the version. Numbers of stops are those of
-`machine`. Its table of answers is that of
-the calls in examples/embed/. It is compiled as C and as C++, where there is a compiler, with all warnings as errors.
+`machine`. Its table of answers is that of the calls in examples/embed/, and of the random ones in tests/hostile/library.c.
+
+Where there is a compiler, the header is compiled as C and as C++, and these programs as C, with all warnings as errors.
 """
 from __future__ import annotations
 
@@ -133,9 +134,12 @@ def show_version() -> None:
     want_equal(re.search(r'(?m)^__version__ = "([\d.]+)"', (ROOT / "python/bpfagent/__init__.py").read_text())[1], text, "the version of the Python package")
 
 
-MISUSE, FAILING = ((ROOT / f"examples/embed/{name}.c").read_text() for name in ("misuse", "failing"))
-# A call in C with what it is to answer; its arguments may have calls of one level.
-ANSWERED = re.compile(r"bpfagent_(\w+)\((?:[^();]|\([^()]*\))*\), BPFAGENT_(\w+)")
+EMBED = ROOT / "examples/embed"
+MISUSE, FAILING, MACHINE_CALLS, HOSTILE = EMBED / "misuse.c", EMBED / "failing.c", EMBED / "machine_calls.h", ROOT / "tests/hostile/library.c"
+# The arguments of a call in C, which may have calls of one level. A call with what it is to answer, and one with all that it may answer.
+ARGUMENTS = r"\((?:[^();]|\([^()]*\))*\)"
+ANSWERED = re.compile(rf"bpfagent_(\w+){ARGUMENTS}, BPFAGENT_(\w+)")
+ALLOWED = re.compile(rf'want\("\w+", bpfagent_(\w+){ARGUMENTS}, ([^;]*)\);')
 
 
 def answers() -> dict[str, set[str]]:
@@ -144,23 +148,82 @@ def answers() -> dict[str, set[str]]:
     return {name: set(told.split()) for names, told in re.findall(r"(?m)^ {6}(\w+(?:, \w+)*) {2,}(.+)$", table) for name in names.split(", ")}
 
 
-def show_answers() -> str:
-    """The table has each call, misuse.c gets each answer of each, and failing.c knows which calls take memory."""
+def taking() -> set[str]:
+    """The calls that take memory."""
+    return {name for name, told in answers().items() if told & {"NOMEM", "FAULT_FAR"}}
+
+
+def beginning(*kinds: str) -> set[str]:
+    """The calls whose first parameters have these types."""
+    return {name[9:] for name, (_, taken) in declared().items() if taken[: len(kinds)] == list(kinds)}
+
+
+def on_agents() -> set[str]:
+    return beginning("bpfagent *")
+
+
+def on_machines() -> set[str]:
+    return beginning("bpfagent *", "size_t")
+
+
+def show_tables() -> str:
+    """The header's table of answers has each call, and machine_calls.h each on a machine, with whether it takes memory."""
     table = answers()
-    for name, (given, taken) in declared().items():
+    for name, (given, _) in declared().items():
         want((name[9:] in table) == (given == "uint32_t" and name != "bpfagent_version"), f"{name} in the table of answers")
-        if taken[0] == "bpfagent *" and name[9:] in table.keys() - {"new", "new_handing"}:
-            table[name[9:]].add("NOAGENT")
-    seen: dict[str, set[str]] = {}
-    for name, told in ANSWERED.findall(re.sub(r"(?<!_)\bship\(", "bpfagent_ship(", MISUSE)):
-        seen.setdefault(name, set()).add(told)
-    taking = {name for name, told in table.items() if "NOMEM" in told} | {"returned", "returned_from"}
-    table["returned_from"].discard("FAULT_FAR")  # which only a failed allocation brings about
-    for name, told in table.items():
-        want_equal(sorted(seen.get(name, ())), sorted(told - {"NOMEM"}), f"what misuse.c has of bpfagent_{name}")
-    want_equal(sorted(set(re.findall(r"TAKES\(\d+, bpfagent_(\w+)\(", FAILING))), sorted(taking), "the calls of failing.c that take memory")
-    want_equal(sorted(set(re.findall(r"QUIET\(bpfagent_(\w+)\(", FAILING))), sorted(table.keys() - taking), "those that take none")
+    rows = re.findall(r"(?m)^ {4}CALL\((\w+), (\w+), ", MACHINE_CALLS.read_text())
+    wanted = [(name, "TAKES" if name in taking() else "QUIET") for name in on_machines()]
+    want_equal(sorted({*rows} ^ {*wanted}), [], f"rows that {MACHINE_CALLS.name} lacks, or has wrongly")
     return f"{sum(map(len, table.values()))} answers"
+
+
+def expanded(compiler: str, path: pathlib.Path) -> str:
+    """A program in C with its macros expanded. In the place of bpfagent.h and the system's headers are empty files."""
+    with tempfile.TemporaryDirectory(prefix="header-") as room:
+        for source in (path, *EMBED.glob("*.h")):
+            for name in (HEADER.name, *re.findall(r"#include <(.+)>", source.read_text())):
+                empty = pathlib.Path(room, name)
+                empty.parent.mkdir(parents=True, exist_ok=True)
+                empty.touch()
+        return re.sub(r"\b(bpfagent_\w+) \(", r"\1(", run(compiler, "-E", "-P", "-nostdinc", f"-I{room}", path))
+
+
+def show_misuse(compiler: str) -> None:
+    """misuse.c gets each answer of each call, but for those of a failed allocation."""
+    seen: dict[str, set[str]] = {}
+    for name, told in ANSWERED.findall(re.sub(r"(?<!_)\bship\(", "bpfagent_ship(", expanded(compiler, MISUSE))):
+        seen.setdefault(name, set()).add(told)
+    for name, told in answers().items():
+        told -= {"NOMEM", "FAULT_FAR"} if name == "returned_from" else {"NOMEM"}
+        told |= {"NOAGENT"} if name in on_agents() - {"new", "new_handing"} else set()
+        want_equal(sorted(seen.get(name, ())), sorted(told), f"what misuse.c has of bpfagent_{name}")
+
+
+def show_failing(compiler: str) -> None:
+    """failing.c makes each call, and knows which take memory."""
+    text = expanded(compiler, FAILING)
+    for opening, wanted, what in ((r"took\(\w+, ", taking(), "that take memory"), (r"quiet\(", answers().keys() - taking(), "that take none")):
+        found = re.findall(rf'{opening}"[^"]*", bpfagent_(\w+)\(', text)
+        want_equal(sorted(set(found)), sorted(wanted), f"the calls of failing.c {what}")
+
+
+def show_hostile(compiler: str) -> None:
+    """library.c makes each call on an agent, and of one on a machine it allows the answers that the header has."""
+    text, table = expanded(compiler, HOSTILE), answers()
+    want_equal(sorted(on_agents() - set(re.findall(r"bpfagent_(\w+)\(", text))), [], "the calls that library.c doesn't make")
+    allowed = {name: set(re.findall(r"BPFAGENT_(\w+)", told)) for name, told in ALLOWED.findall(text)}
+    for name in sorted(on_machines()):
+        want_equal(sorted(allowed.get(name, ())), sorted(table[name]), f"what library.c allows bpfagent_{name}")
+
+
+def show_calls() -> str | None:
+    """The programs that make each call, as the preprocessor expands them."""
+    compilers = [name for name in LANGUAGES["c"] if shutil.which(name)]
+    if not compilers:
+        return "the calls in C aren't looked at, since there is no compiler"
+    for show in (show_misuse, show_failing, show_hostile):
+        show(compilers[0])
+    return None
 
 
 ALONE = """#include "bpfagent.h"
@@ -175,7 +238,8 @@ STANDARDS = {"c": ("c99", "c11", "c17"), "cc": ("c++11", "c++17", "c++20")}
 
 
 def show_compiled() -> str:
-    """That the header alone is C and C++ of each standard, without a warning; how many times it was compiled."""
+    """That the header alone is C and C++ of each standard, and the programs that make each call are C11, without a warning; how many times one
+    was compiled."""
     count = 0
     with tempfile.TemporaryDirectory(prefix="header-") as room:
         made = pathlib.Path(room) / "alone"
@@ -186,8 +250,11 @@ def show_compiled() -> str:
                     run(compiler, f"-std={standard}", "-O1", *WARNINGS, f"-I{HEADER.parent}", "-o", made, made.with_suffix(f".{language}"))
                     run(made)
                     count += 1
+                for program in (MISUSE, FAILING, HOSTILE) if language == "c" else ():
+                    run(compiler, "-std=c11", "-O1", *WARNINGS, f"-I{HEADER.parent}", "-c", "-o", made.with_suffix(".o"), program)
+                    count += 1
     return f"compiled {count} times without a warning" if count else "not compiled, since there is no compiler"
 
 
 if __name__ == "__main__":
-    run_parts("header", [show_functions, show_enums, show_version, show_answers, show_compiled])
+    run_parts("header", [show_functions, show_enums, show_version, show_tables, show_calls, show_compiled])

@@ -2,7 +2,7 @@
 """Installs by tools/install.py, with the header in place of the library too: install.py PROGRAM
 
 The launcher passes on arguments, streams, signals and status, and finds the program behind a link, under a prefix with blanks, and where a package has
-moved it. Modes under any umask; what --uninstall removes, and what it leaves.
+moved it. Modes under any umask; what --uninstall removes, and what it leaves. Installed examples compile.
 """
 from __future__ import annotations
 
@@ -203,5 +203,18 @@ def show_earlier(program: str) -> None:
         want_equal((done.returncode, done.stderr.count("\n")), (1, 1), "a list that names a file outside")
 
 
+def show_examples(program: str) -> None:
+    """The examples in C find what they include where they are installed."""
+    compiler = shutil.which("cc")
+    if not compiler:
+        print("install: the examples aren't compiled: there is no C compiler", flush=True)
+        return
+    with installed(program) as prefix:
+        sources = sorted((prefix / "share/doc/bpfagent/examples/embed").glob("*.c"))
+        want(bool(sources), "no example in C is installed")
+        for source in sources:
+            run(compiler, "-std=c11", "-fsyntax-only", "-Wall", "-Wextra", "-Werror", "-I", prefix / "include", source)
+
+
 if __name__ == "__main__":
-    run_parts("install", [show_arguments, show_streams, show_found, show_modes, show_removed, show_kept, show_earlier])
+    run_parts("install", [show_examples, show_arguments, show_streams, show_found, show_modes, show_removed, show_kept, show_earlier])

@@ -1,7 +1,7 @@
 #!/usr/bin/env python3
 """Compares README.md and docs/PROTOCOL.md with the program and with each other: protocol.py PROGRAM [--write]
 
-The synopsis, the Python client and the C header have the commands that `bpfagent commands` lists. Of each command of the synopsis the page has a part,
+The synopsis, the Python client and engine, and the C header have the commands that `bpfagent commands` lists. Of each command of the synopsis the page has a part,
 in the same order, and explains each of its replies there or among those of all commands; its tables have no other reply. The examples are those of the
 script that the tests run, and README's is what `make run` shows.
 
@@ -18,31 +18,38 @@ from typing import Iterator, NamedTuple
 
 sys.path.insert(0, str(pathlib.Path(__file__).resolve().parents[1]))
 from lib.checks import Failed, report, want
+from lib.commands import ROW
 from lib.programs import SECONDS, ended, patience, unreadable
 from lib.sources import ROOT
 
+sys.path.append(str(ROOT / "python"))
+from bpfagent.limits import WORD
+from bpfagent.protocol import CONTENT, HEADED, LIMITS, OTHERS, SYNOPSIS
+
 SELF, NAME = "tests/product/protocol.py", "bpfagent commands"
+# What has the synopsis' word for each kind of number.
+PACKAGE = "python/bpfagent/protocol.py"
 DOCUMENTS = ["README.md", "docs/PROTOCOL.md"]
 PROTOCOL = ROOT / "docs/PROTOCOL.md"
 SCRIPT = ROOT / "crates/script_runner/data/protocol.script"
 SHOWN = ROOT / "crates/bpfagent"
 HEAD = f"# The examples of README.md and docs/PROTOCOL.md; {SELF} compares them.\n"
-SYNOPSIS = re.compile(r"^## Synopsis\n.*?^```\n(.*?)^```\n", re.S | re.M)
 # A line of the synopsis: the command, whose words are single letters or in capitals, and its replies, which begin with a longer word.
 LINE = re.compile(r"(?P<command>[a-z]\w*(?: (?:[a-z]|[A-Z]\w*|\.\.))*)(?: +(?P<replies>[a-z]\w.*))?")
 # Where the replies begin in the synopsis, unless a command is longer.
 COLUMN = 36
 CLIENT = ROOT / "python/bpfagent/agent.py"
+# The classes with a method for each command. `LineEngine` calls that of `Engine` by its name.
+CLASSES = {"Agent": CLIENT, "Engine": CLIENT.with_name("engine.py")}
 HEADER = ROOT / "include/bpfagent.h"
-# A line of the program's table: the command's name, the limits of its numbers, how many bytes come at most, and whether words that grant do.
-ROW = re.compile(r"(?P<name>[a-z]\w*)(?P<limits>(?: \d+-\d+)*)(?: bytes-(?P<bytes>\d+))?(?P<grants> grants)?")
-# What the synopsis calls a number with these limits. Any number is an address, and six of them begin a machine.
-ANY, RANGE_LENGTH = "0-18446744073709551615", "1-4096"
-WORDS = {"1-1024": "n", "1-48": "m", "1-65536": "LENGTH", RANGE_LENGTH: "LENGTH", "0-65535": "OFFSET", "0-4095": "SLOT", ANY: "ADDRESS"}
+# What the synopsis calls a number with these limits, by the package's table. Any number is an address, and six of them begin a machine.
+ANY, RANGE_LENGTH = f"0-{WORD}", "{}-{}".format(*LIMITS["LENGTH"])
+TABLE = [*((word, limits) for (_, word), limits in OTHERS.items()), *LIMITS.items()]
+WORDS = {**{f"{least}-{most}": word for word, (least, most) in TABLE}, ANY: "ADDRESS"}
 # A stack has as many bytes as code has slots at most. Before a length it is one of its bytes.
 BEFORE_LENGTH = {"0-4095": "OFFSET"}
 START = ["FUEL", "A1", "A2", "A3", "A4", "A5"]
-BYTES = {"4096": "BYTES", "70000": "CODE"}
+BYTES = {str(most): word for word, most in CONTENT.items()}
 # The export for a command that grants objects.
 GRANTING = {"ship2": "ship_granted"}
 
@@ -88,8 +95,8 @@ def with_commands(text: str, known: list[Command]) -> str:
 
 def parts(text: str) -> list[tuple[list[str], str]]:
     """The commands of each heading with what stands below it; the stops of a machine stand for all of them."""
-    found = re.findall(r"^### (`[^\n]*`)\n(.*?)(?=^##|\Z)", text, re.M | re.S)
-    return [(re.findall(r"`([^`]*)`", heading), re.sub(r"`stopped m [^`]*`", "`stopped m STOP`", part)) for heading, part in found]
+    stop = re.compile(r"`stopped m [^`]*`")
+    return [(re.findall(r"`([^`]*)`", heading), stop.sub("`stopped m STOP`", part)) for heading, part in HEADED.findall(text)]
 
 
 def table_of(part: str) -> list[str]:
@@ -149,21 +156,21 @@ def words_of(line: str, limits: list[str]) -> list[str]:
     if limits[: len(START)] == [ANY] * len(START):
         return [*START, *words_of(line, limits[len(START) :])]
     if unknown := {*limits} - {*WORDS}:
-        raise Failed(f"{NAME}: {line!r} has the limits {', '.join(sorted(unknown))}, for which {SELF} has no word")
+        raise Failed(f"{NAME}: {line!r} has the limits {', '.join(sorted(unknown))}, for which {PACKAGE} has no word")
     return [BEFORE_LENGTH.get(limit, WORDS[limit]) if after == RANGE_LENGTH else WORDS[limit] for limit, after in zip(limits, [*limits[1:], ""])]
 
 
 def carried_by(line: str, most: str | None) -> list[str]:
     """The word for so many bytes, where some come."""
     if most and most not in BYTES:
-        raise Failed(f"{NAME}: {line!r} has {most} bytes, for which {SELF} has no word")
+        raise Failed(f"{NAME}: {line!r} has {most} bytes, for which {PACKAGE} has no word")
     return [BYTES[most]] if most else []
 
 
-def client_methods(tree: ast.Module) -> dict[str, int]:
-    """The methods of the Python client, without the underscore that sets some apart from a keyword, and how many values each takes."""
-    agent = next(node for node in tree.body if isinstance(node, ast.ClassDef) and node.name == "Agent")
-    methods = [node for node in agent.body if isinstance(node, ast.FunctionDef)]
+def client_methods(tree: ast.Module, name: str) -> dict[str, int]:
+    """The methods of a class, without the underscore that sets some apart from a keyword, and how many values each takes."""
+    found = next(node for node in tree.body if isinstance(node, ast.ClassDef) and node.name == name)
+    methods = [node for node in found.body if isinstance(node, ast.FunctionDef)]
     return {method.name.rstrip("_"): len(method.args.args) - 1 + (len(START) - 1) * bool(method.args.vararg) for method in methods}
 
 
@@ -177,11 +184,12 @@ def client_lines(tree: ast.Module) -> Iterator[tuple[str, int]]:
 
 
 def client_drifts(known: list[Command]) -> Iterator[str]:
-    """Where the Python client has other commands than the table."""
-    tree = ast.parse(CLIENT.read_text())
-    methods, counts = client_methods(tree), {command.name: len(command.words) for command in known}
-    yield from (f"{CLIENT.name}: `{name}` takes {methods.get(name)} values, and not {count}" for name, count in counts.items() if methods.get(name) != count)
-    yield from (f"{CLIENT.name} writes `{name}` with {count} values" for name, count in client_lines(tree) if counts.get(name) != count)
+    """Where the Python client, or the engine, has other commands than the table."""
+    trees, counts = {name: ast.parse(path.read_text()) for name, path in CLASSES.items()}, {command.name: len(command.words) for command in known}
+    for owner, tree in trees.items():
+        methods, file = client_methods(tree, owner), CLASSES[owner].name
+        yield from (f"{file}: `{name}` takes {methods.get(name)} values, and not {count}" for name, count in counts.items() if methods.get(name) != count)
+    yield from (f"{CLIENT.name} writes `{name}` with {count} values" for name, count in client_lines(trees["Agent"]) if counts.get(name) != count)
 
 
 def header_drifts(known: list[Command]) -> Iterator[str]:

@@ -24,7 +24,8 @@ import threading
 from typing import Sequence, Tuple
 
 sys.path.insert(0, str(pathlib.Path(__file__).resolve().parents[1]))
-from lib.checks import Failed, want
+from lib.checks import Failed, want, want_equal
+from lib.commands import Form, commands
 from lib.programs import has_checks
 from lib.scripts import Talk, conversations
 from lib.sources import ROOT
@@ -145,28 +146,58 @@ def before_a_line(failing: Failing) -> int:
     return len(found)
 
 
-# A conversation with a command of each kind: how many allocations each makes, and of how many bytes. `ship` asks for the
-# bytes of its code and for its entries, of which none is longer than ENTRY; `line` asks for a text of at most LINE.
+# A line, how many allocations it makes, and of how many bytes.
+Counted = Tuple[str, int, int]
+# `ship` asks for the bytes of its code and for its entries, of which none is longer than ENTRY; `line` asks for a text of at most LINE.
 CODE = "7b0a000000000000" + "95" + "00" * 7
 ENTRY, LINE = 32, 64
-COUNTED = [
-    ("make 64", 1, 64), ("put 1 0 0102", 1, 2), ("get 1 0 2", 0, 0), ("get 1 63 2", 0, 0), (f"ship 9 0 0 0 0 0 {CODE}", 2, 16 + 2 * ENTRY),
-    ("step 1", 0, 0), ("one 1", 0, 0), ("regs 1", 0, 0), ("out 1", 0, 0), ("stack 1 0 8", 1, 8), ("line 1 0", 1, LINE), ("break 1 1", 0, 0),
-    ("watch 1 0x100000000 8", 0, 0), ("unbreak 1 1", 0, 0), ("leave 1", 0, 0), ("left 1", 0, 0), ("return 1", 0, 0), ("returned 1", 1, 64),
-    ("free 1", 0, 0), ("nothing", 0, 0), ("put 1 0 zz", 0, 0), ("x" * 69_000, 0, 0),
-]
+# The commands that allocate, or of which other lines are counted than the one with the least numbers.
+COUNTED: dict[str, list[Counted]] = {
+    "make": [("make 64", 1, 64)],
+    "free": [("make 64", 1, 64), ("free 2", 0, 0)],
+    "put": [("put 1 0 0102", 1, 2)],
+    "get": [("get 1 0 2", 0, 0), ("get 1 63 2", 0, 0)],
+    "ship": [(f"ship 9 0 0 0 0 0 {CODE}", 2, 16 + 2 * ENTRY)],
+    "ship2": [(f"ship2 9 0 0 0 0 0 {LOOP.hex()}{grants}", 2, 32 + 4 * ENTRY) for grants in ("", " r1 w2")],
+    "returned": [("returned 1", 1, 64)],
+    "stack": [("stack 1 0 8", 1, 8)],
+    "line": [("line 1 0", 1, LINE)],
+    "break": [("break 1 1", 0, 0)],
+    "unbreak": [("unbreak 1 1", 0, 0)],
+    "watch": [("watch 1 0x100000000 8", 0, 0)],
+    "unwatch": [("unwatch 1 0x100000000 8", 0, 0)],
+    "resume": [("one 2", 0, 0), ("resume 2", 0, 0)],
+}
 # Where the bytes are a bound, and not the very number.
-BOUNDED = ("ship ", "line ")
+BOUNDED = ("ship ", "ship2 ", "line ")
+# What comes after all commands: the object that has been far, and lines that are answered `bad`.
+LATER, WRONG = "free 1", ["nothing", "put 1 0 zz", "x" * 69_000]
+
+
+def least_line(name: str, form: Form) -> str:
+    return " ".join([name, *(str(among[0]) for among in form.numbers), *["00"] * bool(form.most_bytes)])
+
+
+def counted_lines() -> list[Counted]:
+    """A conversation with each command, in the order of the table. A command that COUNTED doesn't name has one line and allocates nothing."""
+    known = commands()
+    want(COUNTED.keys() <= known.keys(), f"COUNTED has commands that aren't in the table: {COUNTED.keys() - known.keys()}")
+    lines = [line for name, form in known.items() for line in COUNTED.get(name, [(least_line(name, form), 0, 0)])]
+    return [*lines, *((line, 0, 0) for line in (LATER, *WRONG))]
 
 
 def counted_commands(failing: Failing) -> None:
     """How many allocations each of the commands makes, and of how many bytes: a step, a reply and the reading of a line none."""
-    lines = [line for line, _, _ in COUNTED]
-    made = [failing.counted(PROGRAM, ["run"], said(lines[:k]))[1] for k in range(len(lines) + 1)]
-    for (line, wanted, size), before, after in zip(COUNTED, made, made[1:]):
+    counted = counted_lines()
+    lines = [line for line, _, _ in counted]
+    made = [failing.counted(PROGRAM, ["run"], said(lines[:k])) for k in range(len(lines) + 1)]
+    for (line, wanted, size), (_, before), (_, after) in zip(counted, made, made[1:]):
         count, found = after.allocations - before.allocations, after.bytes - before.bytes
         is_so = found <= size if line.startswith(BOUNDED) else found == size
         want(count == wanted and is_so, f"{line[:40]} makes {count} allocations of {found} bytes, and not {wanted} of {size}")
+    replies = made[-1][0][1].decode().splitlines()
+    want_equal([line for line, reply in zip(lines, replies) if reply == "bad"], WRONG, "the counted lines that are answered `bad`")
+    want_equal(len(replies), len(lines), "replies to the counted lines")
 
 
 def counted_streams(failing: Failing) -> None:

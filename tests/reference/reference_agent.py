@@ -1,14 +1,18 @@
 """The agent of docs/PROTOCOL.md in Python, around the interpreter beside it."""
 from __future__ import annotations
 
+import pathlib
 import re
-from typing import Any, Callable, Mapping, Sequence
+import sys
+from typing import Any, Mapping, Sequence
 
+sys.path.insert(0, str(pathlib.Path(__file__).resolve().parents[1]))
 from debugger import Debugger
 from instructions import Fault, load
 from interpreter import MACHINES, OBJECTS, Machine, Object
+from lib.commands import Form, commands
 
-NUMBER = re.compile(r"0|[1-9][0-9]*|0x[0-9a-fA-F]{1,16}")
+NUMBER = re.compile(r"0|[1-9][0-9]{0,19}|0x[0-9a-fA-F]{1,16}")
 GRANT = re.compile(rf"([rw])({NUMBER.pattern})")
 BYTES = re.compile(r"(?:[0-9a-fA-F]{2})+")
 LINE = 70000
@@ -20,37 +24,8 @@ class Bad(Exception):
     """The line isn't a command."""
 
 
-def number(least: int, most: int) -> Callable[[str], int]:
-    """Reads a number from the least to the most."""
-
-    def read(token: str) -> int:
-        if not NUMBER.fullmatch(token) or not least <= int(token, 0) <= most:
-            raise Bad
-        return int(token, 0)
-
-    return read
-
-
-def octets(most: int) -> Callable[[str], bytes]:
-    """Reads at most so many bytes."""
-
-    def read(token: str) -> bytes:
-        if not BYTES.fullmatch(token) or len(token) > 2 * most:
-            raise Bad
-        return bytes.fromhex(token)
-
-    return read
-
-
-WORD, OBJECT, MACHINE, SLOT = number(0, (1 << 64) - 1), number(1, OBJECTS), number(1, MACHINES), number(0, 4095)
-OFFSET, LENGTH = number(0, 65535), number(1, 4096)
 # The words after each command.
-COMMANDS: dict[str, Sequence[Callable[[str], Any]]] = {
-    "make": [number(1, 65536)], **dict.fromkeys(("free", "leave", "left", "return", "returned"), [OBJECT]),
-    "put": [OBJECT, OFFSET, octets(4096)], "get": [OBJECT, OFFSET, LENGTH], **dict.fromkeys(("ship", "ship2"), [*[WORD] * 6, octets(LINE)]),
-    **dict.fromkeys(("step", "one", "resume", "regs", "out"), [MACHINE]), **dict.fromkeys(("break", "unbreak", "line"), [MACHINE, SLOT]),
-    **dict.fromkeys(("watch", "unwatch"), [MACHINE, WORD, LENGTH]), "stack": [MACHINE, SLOT, LENGTH],
-}
+COMMANDS = commands()
 # Each move: the place that it begins in and the one that it ends in, and its reply.
 MOVES = {
     "leave": ("here", "leaving", "leaving"), "left": ("leaving", "far", "left"),
@@ -58,15 +33,42 @@ MOVES = {
 }
 
 
-def grants_of(tokens: Sequence[str]) -> dict[int, bool]:
+def number(word: str, among: range) -> int:
+    """The number that a word spells, if it is among these."""
+    if not NUMBER.fullmatch(word) or int(word, 0) not in among:
+        raise Bad
+    return int(word, 0)
+
+
+def octets(word: str, most: int) -> bytes:
+    """The bytes that a word spells, at most so many."""
+    if not BYTES.fullmatch(word) or len(word) > 2 * most:
+        raise Bad
+    return bytes.fromhex(word)
+
+
+def grants_of(words: Sequence[str]) -> dict[int, bool]:
     """The objects that are granted, and whether for writing too: their numbers rise."""
-    found = [GRANT.fullmatch(token) for token in tokens]
+    found = [GRANT.fullmatch(word) for word in words]
     if len(found) > GRANTS or not all(found):
         raise Bad
-    numbers = [OBJECT(it[2]) for it in found]
+    numbers = [number(it[2], range(1, OBJECTS + 1)) for it in found]
     if any(one >= following for one, following in zip(numbers, numbers[1:])):
         raise Bad
     return {n: it[1] == "w" for n, it in zip(numbers, found)}
+
+
+def values_of(form: Form, words: Sequence[str]) -> list[Any]:
+    """What the words of a command say."""
+    count = len(form.numbers) + bool(form.most_bytes)
+    if len(words) < count or (len(words) > count and not form.takes_grants):
+        raise Bad
+    values: list[Any] = [number(word, among) for word, among in zip(words, form.numbers)]
+    if form.most_bytes:
+        values.append(octets(words[count - 1], form.most_bytes))
+    if form.takes_grants:
+        values.append(grants_of(words[count:]))
+    return values
 
 
 class Agent:
@@ -79,19 +81,14 @@ class Agent:
         self.debuggers: list[Debugger] = []
 
     def reply(self, line: str) -> str:
-        name, *tokens = line.split(" ")
-        wanted = COMMANDS.get(name, [])
+        name, *words = line.split(" ")
         try:
-            if len(line) > LINE or not wanted or len(tokens) < len(wanted):
+            if len(line) > LINE or name not in COMMANDS:
                 raise Bad
-            values = [read(token) for read, token in zip(wanted, tokens)]
-            if name == "ship2":
-                return self.ship(*values, grants_of(tokens[len(wanted) :]))
+            values = values_of(COMMANDS[name], words)
         except Bad:
             return "bad"
-        if len(tokens) > len(wanted):
-            return "bad"
-        if wanted[0] is MACHINE:
+        if hasattr(Debugger, f"do_{name}"):
             m, *rest = values
             return getattr(self.debuggers[m - 1], f"do_{name}")(*rest) if m <= len(self.debuggers) else "none"
         return self.move(name, *values) if name in MOVES else getattr(self, name)(*values)
@@ -157,3 +154,6 @@ class Agent:
             return f"refused {fault.slot} {fault.name}"
         self.debuggers.append(Debugger(Machine(len(self.debuggers) + 1, program, fuel, [r1, r2, r3, r4, r5], self.objects, grants)))
         return f"shipped {len(self.debuggers)}"
+
+    # its last value is the grants
+    ship2 = ship

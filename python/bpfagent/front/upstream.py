@@ -66,11 +66,11 @@ class Setup:
             if REFUSAL.fullmatch(reply):
                 why = why_bad(line.decode("ascii", "replace")) if reply == "bad" else ""
                 raise Refused(f"line {number} of the setup was answered {reply!r}{why and f': {why}'}")
-            if made := MADE.fullmatch(reply):
-                self.lengths[int(made[1])] = int(line.split()[1], 0)
-            elif freed := FREED.fullmatch(reply):
-                self.lengths.pop(int(freed[1]), None)
-            elif SHIPPED.fullmatch(reply):
+            if (made := MADE.read(reply)) is not None:
+                self.lengths[made] = int(line.split()[1], 0)
+            elif (freed := FREED.read(reply)) is not None:
+                self.lengths.pop(freed, None)
+            elif SHIPPED.read(reply) is not None:
                 self.machines += 1
 
 
