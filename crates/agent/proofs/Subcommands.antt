@@ -2,8 +2,7 @@
 use Rattle.std.proofs.Common.{◌≡◌, Bool, true, false, not, ◌&&◌, List, [], ◌∷◌, ◌++◌, Option, None, Some, is_some, IsSome, map, refl, subst, option_map, cond}
 use Rattle.std.proofs.Common.{codes, arith}
 use Rattle.std.specs.Prelude.{option_and_then}
-use Rattle.core.specs.List.{AllByRecursion}
-use Rattle.std.specs.List.{list_any}
+use Rattle.std.specs.List.{AllByRecursion, list_any}
 use Rattle.std.specs.Option.{option_map_or}
 use Rattle.std.specs.Str.{bytes_eq}
 use Rattle.clap.specs.Facts.{explicit_source}
@@ -171,7 +170,7 @@ entered_good None f = tt
 entered_good (Some p) f =
     chosen_has (λ o. option_map_or (λ s. level_fault s [] nothing_held p.1 false []) o [] ≡ [] → IsEntered (option_map (λ s. rows_at s p.1) o))
     subcommands p.0 (λ _. tt)
-    (run_entered p.1, (λ _. (refl, tt), (λ _. (refl, tt), (λ _. (refl, tt), (store_entered p.1, (serve_entered p.1, (λ _. (refl, tt), tt))))))) f
+    (search (run_entered p.1, store_entered p.1, serve_entered p.1)) f
 
 -- right arguments enter a subcommand
 pub right_enters : (arguments : List Text) → faults_of arguments ≡ []

@@ -120,8 +120,7 @@ pub fn do_task<R: Read, W: Write, E: Write>(
         Task::Check { explains } => check(alloc, explains, reader, writer, errors),
         Task::Assemble { explains } => asm(alloc, explains, reader, writer, errors),
         Task::Disassemble(showing) => report(dis(alloc, showing, reader, writer), errors),
-        Task::Store(_) => report(Ok(()), errors),
-        Task::Serve(_) => report(Ok(()), errors),
+        Task::Store(_) | Task::Serve(_) => report(Ok(()), errors),
         Task::Commands => report(commands(writer), errors),
     }
 }

@@ -1,4 +1,4 @@
-use Rattle.std.proofs.Common.{ℕ, Bool, List, Option, None, Some, Result, IfSome, refl}
+use Rattle.std.proofs.Common.{ℕ, Bool, List, Option, None, Some, Result, IfSome, refl, arith}
 use Rattle.std.specs.Prelude.{⊤}
 use Rattle.std.proofs.KnownBytes.{Keeps-refl}
 use Rattle.agent.specs.AsmLeaves.{AsmLeaves}
@@ -53,12 +53,9 @@ returns-in-Disassemble g c = rw c.in-Disassemble.is (
 )
 
 pub returns-in-Store : goal.returns-in-Store
-returns-in-Store g c = rw c.in-Store.is
-    (does_nothing (g.R.Read.remaining c.args.reader.now) (g.W.Write.contents c.args.writer.now) _ _ _ c.report-in-Store.ensures)
-
-pub returns-in-Serve : goal.returns-in-Serve
-returns-in-Serve g c = rw c.in-Serve.is
-    (does_nothing (g.R.Read.remaining c.args.reader.now) (g.W.Write.contents c.args.writer.now) _ _ _ c.report-in-Serve.ensures)
+returns-in-Store g c =
+    let nothing = does_nothing (g.R.Read.remaining c.args.reader.now) (g.W.Write.contents c.args.writer.now) _ _ _ c.report-in-Store.ensures in
+    grind (arith, c.in-Store.is, nothing)
 
 pub returns-in-Commands : goal.returns-in-Commands
 returns-in-Commands g c = rw c.in-Commands.is (
