@@ -12,7 +12,7 @@ use Rattle.machine.specs.declared.state.Stepped.TheVariants as stepped
 use Rattle.machine.specs.Rows.{Work}
 use Rattle.machine.specs.Rows.Work.{Computes, AccessesStack, Accesses, Measures}
 use Rattle.machine.specs.MachineState.{MachineState}
-use Rattle.machine.specs.Rows.{Request, Answer, Outcome, asks, asks_for, work_outcome, waits, work_of}
+use Rattle.machine.specs.Rows.{Answer, Outcome, asks, asks_for, work_outcome, waits, work_of}
 use Rattle.machine.specs.Rows.Request.{Touch}
 use Rattle.machine.specs.TableStep as table
 use Rattle.machine.specs.TableStep.{TableStep, StepsFrom, Attempts}

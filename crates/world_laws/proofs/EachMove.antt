@@ -5,7 +5,6 @@ use Rattle.memory.specs.Objects.{IsLive, bytes_of, with_bytes}
 use Rattle.memory.proofs.Accesses.{set_commutes}
 use Rattle.object_store.specs.Stores.{StoreState, HasRisen, HasRoom, IsScoped, StandsAt, near_bytes, near_length, place_of, with_place}
 use Rattle.object_store.specs.Calls.{RefusesMove, Frees, BeginsLeave, EndsLeave, BeginsReturn, EndsReturn}
-use Rattle.far_store.specs.declared.fault.StoreFault.{StoreFault}
 use Rattle.placement.specs.declared.places.Place.{Place}
 use Rattle.placement.specs.declared.places.Place.TheVariants as place
 use Rattle.placement.specs.declared.places.Moved.{Moved}
@@ -21,6 +20,10 @@ use Rattle.world_laws.proofs.Blinded.{Leaves, Suits, blind, leaves_objects, leav
 use Rattle.world_laws.proofs.StoreCalls.{Move, Refused, Moves}
 
 -- ---- what it does to the store
+
+abbrev pub is_faulty : Moved → Bool
+is_faulty (moved.Fault f) = true
+is_faulty _ = false
 
 refused : (at : Place) (old new : StoreState) (n : ℕ) (m : Moved) (kind : MoveKind) → RefusesMove at old n m new → Move old n (reply.Moved n kind m) new
 refused at old new n moved.NoObject kind h = Refused refl h.1
@@ -46,10 +49,10 @@ done kind «from» old new n faults stands fits unscoped e = Moves «from» (pla
       fault = λ k p tells. absurd tells;
     }) e
 
-failed : (kind : MoveKind) («from» : Place) (f : StoreFault) (old new : StoreState) (n : ℕ) → StandsAt «from» old n
+failed : (kind : MoveKind) («from» : Place) (old new : StoreState) (n : ℕ) (m : Moved) → is_faulty m ≡ true → StandsAt «from» old n
     → Fits «from» (place_before kind) old n → («from» ≡ place.Here → ⊥) → HasRisen old.faults new.faults
-    → new ≡ record (with_place old n (place_before kind)) { faults = new.faults } → Move old n (reply.Moved n kind (moved.Fault f)) new
-failed kind «from» f old new n stands fits away risen e = Moves «from» (place_before kind) new.faults
+    → new ≡ record (with_place old n (place_before kind)) { faults = new.faults } → Move old n (reply.Moved n kind m) new
+failed kind «from» old new n (moved.Fault f) is stands fits away risen e = Moves «from» (place_before kind) new.faults
     (record {
       stands = stands;
       fits = fits;
@@ -59,6 +62,7 @@ failed kind «from» f old new n stands fits away risen e = Moves «from» (plac
       is_unmade = refl;
       fault = λ k p tells. (risen, sym tells.0, tells.1);
     }) e
+failed kind «from» old new n _ is stands fits away risen e = absurd (cc)
 
 begun_leave : (old new : StoreState) (n : ℕ) (m : Moved) → BeginsLeave old n m new → Move old n (reply.Moved n move.Leave m) new
 begun_leave old new n moved.Done h = done move.Leave place.Here old new n old.faults h.0 (λ g. omega (arith, g)) (λ e. h.1) h.2
@@ -67,7 +71,7 @@ begun_leave old new n m h = refused place.Here old new n m move.Leave h
 
 ended_leave : (old new : StoreState) (n : ℕ) (m : Moved) → EndsLeave old n m new → Move old n (reply.Moved n move.Left m) new
 ended_leave old new n moved.Done h = done move.Left place.Leaving old new n new.faults h.0 (λ g. omega (arith, g)) (λ e. absurd (cc)) h.2
-ended_leave old new n (moved.Fault f) h = failed move.Left place.Leaving f old new n h.0 (λ g. omega (arith, g)) (λ e. absurd (cc)) h.1 h.2
+ended_leave old new n (moved.Fault f) h = failed move.Left place.Leaving old new n (moved.Fault f) refl h.0 (λ g. omega (arith, g)) (λ e. absurd (cc)) h.1 h.2
 ended_leave old new n m h = refused place.Leaving old new n m move.Left h
 
 begun_return : (old new : StoreState) (n : ℕ) (m : Moved) → BeginsReturn old n m new → Move old n (reply.Moved n move.Return m) new
@@ -80,7 +84,7 @@ ended_return : (old new : StoreState) (n : ℕ) (m : Moved) → EndsReturn true 
 ended_return old new n moved.Done h =
     done move.Returned place.Returning old new n old.faults h.0 (λ g. omega (arith, g)) (λ e. absurd (cc)) h.1
 ended_return old new n (moved.Fault f) h =
-    failed move.Returned place.Returning f old new n h.0 (λ g. omega (arith, g)) (λ e. absurd (cc)) h.1 h.2
+    failed move.Returned place.Returning old new n (moved.Fault f) refl h.0 (λ g. omega (arith, g)) (λ e. absurd (cc)) h.1 h.2
 ended_return old new n m h = refused place.Returning old new n m move.Returned h
 
 pub store_move : (k : MoveKind) (old new : StoreState) (n : ℕ) (m : Moved) → MovesSo k old n m new
@@ -91,10 +95,6 @@ store_move move.Return old new n m h = begun_return old new n m h
 store_move move.Returned old new n m h = ended_return old new n m h
 
 -- ---- which reply it has
-
-abbrev pub is_faulty : Moved → Bool
-is_faulty (moved.Fault f) = true
-is_faulty _ = false
 
 -- a settled reply comes of no fault
 abbrev pub Settles : (Moved → Reply) → Type 0
