@@ -23,6 +23,7 @@ from typing import Any, Sequence
 sys.path.insert(0, str(pathlib.Path(__file__).resolve().parents[1]))
 from lib import package
 from lib.checks import run_parts, want, want_equal
+from lib.commands import commands
 from lib.far import greeted
 from lib.programs import Process, ended, has_checks, of_data, patience, unreadable
 from lib.scripts import Talk, conversations
@@ -132,6 +133,9 @@ def show_statuses(program: str) -> None:
         want((status, errors) == (0, b"") and b"Usage: bpfagent" in output, f"{arguments} ended with {status}, {output}, {errors}")
         for word in HELP.get(arguments[0], []):
             want(word in output, f"{arguments} doesn't say {word}: {output}")
+        if arguments[0] == "run":
+            unsaid = [name for name in commands() if not re.search(rf"(?m)^  (?:.*, )?{name}\b", output.decode())]
+            want_equal(unsaid, [], "the commands that the help of run doesn't show")
         want(not PAGES.search(output), f"{arguments} names a page that isn't installed: {output}")
         long = [line for line in output.decode().split("\n") if len(line) > 80 and not re.match(" +-", line)]
         want(not long, f"{arguments} has lines of more than 80 columns beside its options: {long}")
